@@ -47,15 +47,11 @@ module _ (m : Meaning) (k f : ℕ) (d : ℤ) where
     pub taken-writable : Writable m k f d
     taken-writable = writable-stable is-kind (passed (passed j .1) .0)
 
-    pub taken-fits : m .size k f ≤ room
-    taken-fits = let h = passed (passed (passed j .1) .1) .0 in ⊎-elim (λ y. absurd (h y)) (λ y. y) (cases-lt room (m .size k f))
-
-  -- a refusal of what is writable is for want of room
-  pub refused-room : (room : ℕ) (n : ℕ) → Lawful m → Writable m k f d → Judged (writeTable m k f d room) (Some n) → (n ≡ 13) × (room < m .size k f)
-  refused-room room n laws w (inl h) = absurd (let e = w .is-there .is-form in omega (arith, h .0))
-  refused-room room n laws w (inr (_, inl h)) = absurd (h .0 w)
-  refused-room room n laws w (inr (_, inr (_, inl h))) = (grind arith, h .0)
-  refused-room room n laws w (inr (_, inr (_, inr h))) = absurd (grind arith)
+  -- a writable triple with room for it is taken
+  pub judged-taken : (room : ℕ) → Writable m k f d → m .size k f ≤ room → Judged (writeTable m k f d room) None
+  judged-taken room w fits =
+    let is-form = w .is-there .is-form in
+    inr ((λ none. omega arith), inr ((λ n. n w), inr ((λ short. omega arith), refl)))
 
   -- what a call answered at a distance that is d under another name
   pub judged-at : {e : ℤ} → e ≡ d → (room : ℕ) (answer : Option ℕ) → Judged (writeTable m k f e room) answer → Judged (writeTable m k f d room) answer
