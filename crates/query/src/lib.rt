@@ -1,0 +1,3 @@
+// One question about one branch, and its answer.
+mod numbers;
+mod words;
