@@ -1,14 +1,16 @@
 -- The words of a line, and the numbers and bytes that words write.
 use mathlib.Core.Path.{_≡_}
-use mathlib.Core.Bool.{Bool, cond, _||_}
+use mathlib.Core.Bool.{Bool, cond, _&&_, _||_}
 use mathlib.Core.List.{List, [], _∷_}
-use Prim.Native.Nat.{ℕ}
-use lib.Dec.{eqb}
+use Prim.Native.Nat.{ℕ, _+_, _*_, _/_, _%_}
+use lib.Dec.{eqb, ltb}
 use lib.IntN.{ℤ, pos, negℤ}
 use lib.ListN.{getD, drop}
 use Rattle.std.specs.declared.option.Option.{Option}
 use Rattle.std.specs.declared.option.Option.the-variants.{Some, None}
+use Rattle.std.specs.Options.{mapped}
 use Rattle.std.specs.Reads.{value}
+use Rattle.std.specs.Text.{digitChar, digitValue}
 use Rattle.query.specs.declared.words.Word.{Word}
 
 -- a space or a tab
@@ -44,3 +46,15 @@ afterMinus word = cond (negative word) (drop 1 word) word
 
 abbrev pub integer : List ℕ → ℤ
 integer word = cond (negative word) (negℤ (pos (value 10 (drop 1 word)))) (pos (value 10 word))
+
+-- bytes in hexadecimal: two lowercase digits to a byte, the high one first
+abbrev pub hex : List ℕ → List ℕ
+hex [] = []
+hex (b ∷ bs) = digitChar (b / 16) ∷ digitChar (b % 16) ∷ hex bs
+
+-- the bytes that a word of such digits writes, in either case of the letters
+abbrev pub unhex : List ℕ → Option (List ℕ)
+unhex [] = Some []
+unhex (high ∷ []) = None
+unhex (high ∷ low ∷ word) =
+  cond (ltb (digitValue high) 16 && ltb (digitValue low) 16) (mapped (λ bs. (digitValue high * 16 + digitValue low) ∷ bs) (unhex word)) None

@@ -1,3 +1,4 @@
 // One question about one branch, and its answer.
+mod hex;
 mod numbers;
 mod words;
