@@ -1,3 +1,4 @@
 pub mod Digits
 pub mod Hexes
 pub mod Splits
+pub mod Tasks
