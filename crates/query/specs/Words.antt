@@ -10,6 +10,7 @@ use Rattle.std.specs.declared.option.Option.{Option}
 use Rattle.std.specs.declared.option.Option.the-variants.{Some, None}
 use Rattle.std.specs.Options.{mapped}
 use Rattle.std.specs.Reads.{value}
+use Rattle.std.specs.shelf.Lists.{joined}
 use Rattle.std.specs.Text.{digitChar, digitValue}
 use Rattle.query.specs.declared.words.Word.{Word}
 
@@ -48,9 +49,11 @@ abbrev pub integer : List ℕ → ℤ
 integer word = cond (negative word) (negℤ (pos (value 10 (drop 1 word)))) (pos (value 10 word))
 
 -- bytes in hexadecimal: two lowercase digits to a byte, the high one first
+abbrev pub twoDigits : ℕ → List ℕ
+twoDigits b = digitChar (b / 16) ∷ digitChar (b % 16) ∷ []
+
 abbrev pub hex : List ℕ → List ℕ
-hex [] = []
-hex (b ∷ bs) = digitChar (b / 16) ∷ digitChar (b % 16) ∷ hex bs
+hex bytes = joined twoDigits bytes
 
 -- the bytes that a word of such digits writes, in either case of the letters
 abbrev pub unhex : List ℕ → Option (List ℕ)

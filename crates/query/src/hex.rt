@@ -3,12 +3,11 @@ ghost use mathlib.Core.Path.{_≡_};
 ghost use mathlib.Core.List.{_++_};
 ghost use Rattle.std.specs.Numbers.{Checked};
 ghost use Prim.Native.Nat.{_*_, _+_, _<_};
-ghost use Rattle.std.specs.Of.String.{string-bytes};
 ghost use Rattle.std.specs.Of.Vec.{vec-items};
 ghost use Rattle.std.specs.Options.{mapped};
-ghost use Rattle.std.specs.Text.{digitValue};
+ghost use Rattle.std.specs.Text.{digitChar, digitValue};
 ghost use Rattle.std.specs.Vec.{made};
-ghost use Rattle.query.specs.Words.{unhex};
+ghost use Rattle.query.specs.Words.{hex as hexOf, unhex};
 use std::alloc::AllocError;
 use std::alloc::Global;
 
@@ -37,4 +36,22 @@ pub fn read_hex(heap: Global, word: &[u8]) -> Result<Option<Vec<u8>>, AllocError
         return Ok(Some(bytes));
     }
     Ok(None)
+}
+
+fn digit(value: u8) -> u8
+    requires { ⌜ value < 16 ⌝ }
+    ensures { λ r. ⌜ r ≡ digitChar value ⌝ }
+{
+    if value < 10 { b'0' + value } else { b'a' - 10 + value }
+}
+
+// Appends bytes in lowercase hexadecimal.
+pub fn push_hex(text: &mut Vec<u8>, bytes: &[u8]) -> Result<(), AllocError>
+    ensures { λ r. ⌜ made r (λ _. vec-items (now (text .exit)) ≡ vec-items (now (text .entry)) ++ hexOf (now (bytes .entry))) ⌝ }
+{
+    for b in bytes {
+        text.push(digit(*b / 16))?;
+        text.push(digit(*b % 16))?;
+    }
+    Ok(())
 }

@@ -60,14 +60,16 @@ module _ (m : Meaning) (k f : ℕ) (d : ℤ) where
   pub written-at : {e : ℤ} → e ≡ d → (before after : List ℕ) → after ≡ m .bytes k f e ++ drop (m .size k f) before → after ≡ m .bytes k f d ++ drop (m .size k f) before
   written-at same before after h = subst (λ z. after ≡ m .bytes k f z ++ drop (m .size k f) before) same h
 
-  pub read-back : Lawful m → Writable m k f d → (answer : Option Branch) → Reading m (m .bytes k f d) answer → answer ≡ Some (record { kind = k; form = f; distance = d })
+  read-back : Lawful m → Writable m k f d → (answer : Option Branch) → Reading m (m .bytes k f d) answer → answer ≡ Some (record { kind = k; form = f; distance = d })
   read-back laws w None none = absurd (none (record { kind = k; form = f; distance = d }) (record { is-writable = w; has-bytes = refl }))
   read-back laws w (Some b) means =
     let same = laws .bytes-apart (b .kind) k (b .form) f (b .distance) d (means .is-writable) w (means .has-bytes) in
     ap Some (branch-is b (same .0) (same .1) (same .2))
 
   -- the first n bytes of what was written, n being the form's size
-  pub read-front : Lawful m → Writable m k f d → (n : ℕ) (after rest : List ℕ) (answer : Option Branch) → n ≡ m .size k f → after ≡ m .bytes k f d ++ rest → Reading m (take n after) answer → answer ≡ Some (record { kind = k; form = f; distance = d })
-  read-front laws w n after rest answer long h reading =
-    let front : take n after ≡ m .bytes k f d = ap (take n) h ∙ take-at (m .bytes k f d) rest n (laws .bytes-fill k f d w ∙ sym long) in
-    read-back laws w answer (subst (λ bs. Reading m bs answer) front reading)
+  module _ (laws : Lawful m) (w : Writable m k f d) (n : ℕ) (after rest : List ℕ) (long : n ≡ m .size k f) (h : after ≡ m .bytes k f d ++ rest) where
+    pub front-is : take n after ≡ m .bytes k f d
+    front-is = ap (take n) h ∙ take-at (m .bytes k f d) rest n (laws .bytes-fill k f d w ∙ sym long)
+
+    pub read-front : (answer : Option Branch) → Reading m (take n after) answer → answer ≡ Some (record { kind = k; form = f; distance = d })
+    read-front answer reading = read-back laws w answer (subst (λ bs. Reading m bs answer) front-is reading)

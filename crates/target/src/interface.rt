@@ -2,7 +2,7 @@
 ghost use mathlib.Core.Path.{_≡_};
 ghost use lib.ListN.{length};
 ghost use Rattle.target.specs.Meaning.{Meaning, Lawful};
-ghost use Rattle.target.specs.Refusals.{Judged, Reading, Written, refusal, writeTable};
+ghost use Rattle.target.specs.Refusals.{Judged, Reading, Written, code as codeOf, refusal, writeTable};
 
 // A branch by its kind, the form that it takes and the distance from its first byte to its label.
 #[derive(Clone, Copy, PartialEq, Eq, Debug)]
@@ -21,6 +21,19 @@ pub enum WriteFault {
     NotWritable,
     // The memory handed over is shorter than the form.
     OutputShort,
+}
+
+impl WriteFault {
+    // The number by which it is known.
+    pub fn code(self) -> u32
+        ensures { λ r. ⌜ r ≡ codeOf self ⌝ }
+    {
+        match self {
+            WriteFault::UnknownKind => 6,
+            WriteFault::NotWritable => 14,
+            WriteFault::OutputShort => 13,
+        }
+    }
 }
 
 pub trait Target {

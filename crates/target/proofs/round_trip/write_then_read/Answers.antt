@@ -26,4 +26,4 @@ returns g c =
   let refuses = judged-at m (c .args .kind) (c .args .form) (c .args .distance) same _ None (wrote .refuses) in
   let after = written-at m (c .args .kind) (c .args .form) (c .args .distance) same (c .args .out .now) (c .write .last .out) (wrote .after) in
   let writable = taken-writable m (c .args .kind) (c .args .form) (c .args .distance) (length (c .args .out .now)) (omega arith) refuses in
-  record { refuses = refuses; after = after; same = read-front m (c .args .kind) (c .args .form) (c .args .distance) laws writable (c .size-size .result - 0) (c .write .last .out) _ (c .read .result) (omega (arith, c .size-size .ensures)) after (c .read .ensures) }
+  record { refuses = refuses; after = after; same = read-front m (c .args .kind) (c .args .form) (c .args .distance) laws writable (c .size-size .result - 0) (c .write .last .out) _ (omega (arith, c .size-size .ensures)) after (c .read .result) (c .read .ensures) }

@@ -1,0 +1,36 @@
+-- What a question is answered, and the text of it.
+use mathlib.Core.Path.{_≡_}
+use mathlib.Core.List.{List, [], _∷_, _++_}
+use mathlib.Core.Logic.{_⊎_}
+use Prim.Native.Nat.{ℕ}
+use lib.Chars.{codes}
+use Rattle.std.specs.Of.Vec.{vec-items}
+use Rattle.std.specs.Written.{decimal, signed}
+use Rattle.std.specs.declared.option.Option.the-variants.{Some, None}
+use Rattle.target.specs.Meaning.{Meaning, Writable}
+use Rattle.target.specs.Refusals.{Judged, Reading, code, writeTable}
+use Rattle.x86.specs.X86.{x86}
+use Rattle.query.specs.declared.answers.Answer.{Answer}
+use Rattle.query.specs.declared.answers.Answer.the-variants.{Bytes, Refused, Found, NoBranch, NotUnderstood}
+use Rattle.query.specs.Queries.{Asks, Question, read, write}
+use Rattle.query.specs.Words.{hex, words}
+
+-- the right answer to a question, for a target; writing has room for 16 bytes, the most that any form takes
+abbrev pub Answered : Meaning → Question → Answer → Type 0
+Answered m (write b) (Bytes bytes) = Writable m (b .kind) (b .form) (b .distance) × (vec-items bytes ≡ m .bytes (b .kind) (b .form) (b .distance))
+Answered m (write b) (Refused fault) = Judged (writeTable m (b .kind) (b .form) (b .distance) 16) (Some (code fault))
+Answered m (write b) (Found branch) = ⊥
+Answered m (write b) NoBranch = ⊥
+Answered m (write b) NotUnderstood = ⊥
+Answered m (read bs) (Bytes bytes) = ⊥
+Answered m (read bs) (Refused fault) = ⊥
+Answered m (read bs) (Found branch) = Reading m bs (Some branch)
+Answered m (read bs) NoBranch = Reading m bs None
+Answered m (read bs) NotUnderstood = ⊥
+
+abbrev pub text : Answer → List ℕ
+text (Bytes bytes) = hex (vec-items bytes)
+text (Refused fault) = codes "refused " ++ decimal (code fault)
+text (Found b) = codes "kind " ++ (decimal (b .kind) ++ (codes " form " ++ (decimal (b .form) ++ (codes " distance " ++ signed (b .distance)))))
+text NoBranch = codes "no branch"
+text NotUnderstood = codes "not understood"
