@@ -8,8 +8,12 @@ use native.Mathlib.Nat.{add-zero}
 use native.Mathlib.Omega.{arith}
 use lib.ListN.{length, getD, take, drop}
 use Rattle.std.proofs.shelf.Lists.{drop-more, getD-drop, length-drop, drop-all}
-use Rattle.std.proofs.shelf.Tests.{both-ways, cases-lt, cond-true, cond-false}
-use Rattle.query.specs.Words.{led, lengthened, separates, words}
+use Rattle.std.proofs.shelf.Tests.{both-ways, cases-lt, false≢true, cond-true, cond-false}
+use Rattle.std.specs.Options.{isSome}
+use Rattle.std.specs.declared.option.Option.{Option}
+use Rattle.std.specs.declared.option.Option.the-variants.{Some, None}
+use Rattle.query.specs.declared.words.Word.{Word}
+use Rattle.query.specs.Words.{Split, led, lengthened, separates, words}
 
 pub first-word : (line : List ℕ) (n : ℕ) → 0 < n → n ≤ length line → ((k : ℕ) → k < n → separates (getD line k 0) ≡ false) → (n < length line → separates (getD line n 0) ≡ true) → words line ≡ take n line ∷ words (drop n line)
 first-word [] n some within joins stops = absurd (omega arith)
@@ -39,3 +43,7 @@ some-word line i n L is skipped there within begins joins stops =
   let long : length L ≡ length line - i = ap length is ∙ length-drop i line in
   let some : 0 < n = ⊎-elim (λ y. y) (λ none. absurd (both-ways (separates (getD L 0 0)) (ap separates same ∙ begins) (subst (λ m. separates (getD L m 0) ≡ true) (zero-is n none) (stops (omega arith))))) (cases-lt 0 n) in
   sym skipped ∙ ap words (sym is) ∙ first-word L n some within joins stops
+
+pub some-words : (line : List ℕ) (first : Option Word) → Split line first → isSome first ≡ true → words line ≡ [] → ⊥
+some-words line None split some = absurd (false≢true some)
+some-words line (Some word) split some = λ none. let z : _≡_ {A = ℕ} 0 1 = cc in omega arith

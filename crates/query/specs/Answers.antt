@@ -34,3 +34,15 @@ text (Refused fault) = codes "refused " ++ decimal (code fault)
 text (Found b) = codes "kind " ++ (decimal (b .kind) ++ (codes " form " ++ (decimal (b .form) ++ (codes " distance " ++ signed (b .distance)))))
 text NoBranch = codes "no branch"
 text NotUnderstood = codes "not understood"
+
+-- the right answer to a line: to what it asks of x86, or that it is not understood
+abbrev pub Right : List ℕ → Answer → Type 0
+Right line a =
+  ((q : Question) × Asks (words line) q × Answered x86 q a)
+  ⊎ (((q : Question) → Asks (words line) q → ⊥) × (a ≡ NotUnderstood))
+
+-- the reply to a line: nothing to a blank one, else the line, its answer and a line end
+abbrev pub Replied : List ℕ → List ℕ → Type 0
+Replied line reply =
+  ((words line ≡ []) × (reply ≡ []))
+  ⊎ ((words line ≡ [] → ⊥) × ((a : Answer) × Right line a × (reply ≡ line ++ (codes " = " ++ (text a ++ (10 ∷ []))))))

@@ -3,11 +3,16 @@ ghost use mathlib.Core.Path.{_≡_};
 ghost use mathlib.Core.List.{_++_};
 ghost use Rattle.std.specs.Of.Vec.{vec-items};
 ghost use Rattle.std.specs.Vec.{made};
-ghost use Rattle.query.specs.Answers.{text as textOf};
+ghost use Rattle.query.specs.Answers.{Replied, Right, text as textOf};
 use crate::answers::Answer;
+use crate::answers::answer_query;
 use crate::hex::push_hex;
+use crate::queries::understand;
+use crate::words::next_word;
 use std::alloc::AllocError;
 use std::alloc::Global;
+use x86::X86;
+use x86::X86Target;
 
 // Appends the text of an answer.
 pub fn push_answer(heap: Global, out: &mut Vec<u8>, answer: &Answer) -> Result<(), AllocError>
@@ -30,4 +35,30 @@ pub fn push_answer(heap: Global, out: &mut Vec<u8>, answer: &Answer) -> Result<(
         Answer::NoBranch => out.extend_from_slice("no branch".as_bytes()),
         Answer::NotUnderstood => out.extend_from_slice("not understood".as_bytes()),
     }
+}
+
+// The answer to a line.
+fn answer_line(heap: Global, line: &[u8]) -> Result<Answer, AllocError>
+    ensures { λ r. ⌜ made r (λ a. Right (now (line .entry)) a) ⌝ }
+{
+    match understand(heap, line)? {
+        Some(query) => answer_query(heap, &X86, query),
+        None => Ok(Answer::NotUnderstood),
+    }
+}
+
+// What is printed for a line: nothing where it is blank, else the line, ` = `, its answer and a line end.
+pub fn reply(heap: Global, line: &[u8]) -> Result<Vec<u8>, AllocError>
+    ensures { λ r. ⌜ made r (λ out. Replied (now (line .entry)) (vec-items out)) ⌝ }
+{
+    let mut out = Vec::new(heap);
+    if next_word(line).is_none() {
+        return Ok(out);
+    }
+    let answer = answer_line(heap, line)?;
+    out.extend_from_slice(line)?;
+    out.extend_from_slice(b" = ")?;
+    push_answer(heap, &mut out, &answer)?;
+    out.push(b'\n')?;
+    Ok(out)
 }
