@@ -9,7 +9,7 @@ use Rattle.std.specs.Written.{decimal, signed}
 use Rattle.std.specs.declared.option.Option.the-variants.{Some, None}
 use Rattle.target.specs.Meaning.{Meaning, Writable}
 use Rattle.target.specs.Refusals.{Judged, Reading, code, writeTable}
-use Rattle.x86.specs.X86.{x86}
+use Rattle.x86.specs.Encodings.{x86}
 use Rattle.query.specs.declared.answers.Answer.{Answer}
 use Rattle.query.specs.declared.answers.Answer.the-variants.{Bytes, Refused, Found, NoBranch, NotUnderstood}
 use Rattle.query.specs.Queries.{Asks, Question, read, write}

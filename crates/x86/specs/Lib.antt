@@ -1,2 +1,2 @@
 pub mod Encodings
-pub mod X86
+pub mod Stores

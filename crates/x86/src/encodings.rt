@@ -2,7 +2,9 @@
 ghost use mathlib.Core.Path.{_≡_};
 ghost use lib.ListN.{length};
 ghost use Rattle.std.specs.Orderings.{When};
-ghost use Rattle.x86.specs.Encodings.{Entered, Reaches, encoding, encodings, high as highOf, low as lowOf, size as sizeOf};
+ghost use Rattle.target.specs.Table.{Takes, encoding};
+ghost use Rattle.x86.specs.Encodings.{encodings, high as highOf, low as lowOf, size as sizeOf, table};
+ghost use Rattle.x86.specs.Stores.{Entered};
 
 // The kinds after the sixteen conditional jumps, whose kind is their condition.
 const JMP: u32 = 16;
@@ -41,7 +43,7 @@ pub fn forms(kind: u32) -> u32
 impl Encoding {
     // The encoding of a kind and a form.
     pub fn of(kind: u32, form: u32) -> Option<Encoding>
-        ensures { λ r. ⌜ r ≡ encoding kind form ⌝ }
+        ensures { λ r. ⌜ r ≡ encoding table kind form ⌝ }
     {
         match (kind, form) {
             (0..=15, 0) => Some(Encoding::Short(0x70 + kind as u8)),
@@ -85,9 +87,9 @@ impl Encoding {
         }
     }
 
-    // Whether it reaches a distance.
-    pub fn reaches(self, distance: i32) -> bool
-        ensures { λ r. ⌜ When r (Reaches self distance) (Reaches self distance → ⊥) ⌝ }
+    // Whether it can be written with a distance.
+    pub fn takes(self, distance: i32) -> bool
+        ensures { λ r. ⌜ When r (Takes table self distance) (Takes table self distance → ⊥) ⌝ }
     {
         self.low() <= distance && distance <= self.high()
     }

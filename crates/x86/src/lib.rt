@@ -1,5 +1,5 @@
 // x86 in 32-bit mode as a target.
-ghost use Rattle.x86.specs.X86.{x86};
+ghost use Rattle.x86.specs.Encodings.{x86};
 use target::Branch;
 use target::Target;
 use target::WriteFault;
@@ -48,30 +48,19 @@ pub impl Target for X86 as X86Target {
         if encodings::forms(kind) == 0 {
             return Err(WriteFault::UnknownKind);
         }
-        let Some(encoding) = Encoding::of(kind, form) else {
-            return Err(WriteFault::NotWritable);
-        };
-        if !encoding.reaches(distance) {
-            return Err(WriteFault::NotWritable);
+        match Encoding::of(kind, form) {
+            Some(encoding) => layout::encode(encoding, distance, out),
+            None => Err(WriteFault::NotWritable),
         }
-        if out.len() < encoding.size() as usize {
-            return Err(WriteFault::OutputShort);
-        }
-        layout::put(encoding, distance - encoding.size() as i32, out);
-        Ok(())
     }
 
     fn read(&self, bytes: &[u8]) -> Option<Branch> {
-        let parts = layout::take_apart(bytes)?;
-        let entry = parts.encoding.entry()?;
-        let distance = parts.displacement.checked_add(parts.encoding.size() as i32)?;
-        if !parts.encoding.reaches(distance) {
-            return None;
-        }
+        let instruction = layout::decode(bytes)?;
+        let entry = instruction.encoding.entry()?;
         Some(Branch {
             kind: entry.kind,
             form: entry.form,
-            distance,
+            distance: instruction.distance,
         })
     }
 }

@@ -1,44 +1,26 @@
 use borrow.Author.Needs.{needs}
-use mathlib.Core.Path.{_≡_, sym, subst, _∙_}
+use mathlib.Core.Path.{sym}
 use Prim.Native.Nat.{_^_, _<_}
 use mir.Syntax.{w32}
 use mir.Val.{SFits}
-use Rattle.x86.specs.Encodings.{Reaches}
-use Rattle.x86.proofs.Laws.{bytes-are, distance-told, encoded, meant, meant-reaches, reach-fits, sum-is}
+use Rattle.std.proofs.shelf.Signed.{toZ-ofZ}
+use Rattle.target.proofs.Tables.{meant-by, unlisted-none, unspelled-none}
+use Rattle.x86.specs.Encodings.{table}
+use Rattle.x86.proofs.Laws.{laws}
 use Rattle.x86.proofs.X86Target.read.Needs as need
 
-pub returns-in-Break-parts : need.returns-in-Break-parts
-returns-in-Break-parts c =
-  rw (c .from-residual .ensures)
-  (λ b means.
-    let row = encoded (b .kind) (b .form) (means .is-writable .is-there) in
-    c .in-Break-parts .ensures tt (row .0) _ (sym (bytes-are (row .0) (row .1) (means .is-writable)) ∙ means .has-bytes))
+pub returns-in-Break-instruction : need.returns-in-Break-instruction
+returns-in-Break-instruction c = rw (c .from-residual .ensures) (λ b means. unspelled-none table b means (c .in-Break-instruction .ensures tt))
 
-pub returns-in-Break-distance : need.returns-in-Break-distance
-returns-in-Break-distance c =
-  let e = c .in-Continue-parts .parts .encoding in
-  let z = c .in-Continue-parts .parts .displacement in
-  let parts = c .in-Continue-parts .ensures tt in
-  let fits : SFits w32 z = search needs in
-  let sum = sum-is e z (c .size .result) fits (c .size .ensures) in
-  rw (c .from-residual-in-Break-distance .ensures)
-  (λ b means. c .in-Break-distance .ensures tt (subst (SFits w32) (sym sum) (reach-fits e _ (meant-reaches e z (parts .0) (parts .1) means))))
-
-pub returns-then-not-reaches : need.returns-then-not-reaches
-returns-then-not-reaches c =
-  let e = c .in-Continue-parts .parts .encoding in
-  let z = c .in-Continue-parts .parts .displacement in
-  let parts = c .in-Continue-parts .ensures tt in
-  let fits : SFits w32 z = search needs in
-  let told = distance-told e z (c .in-Continue-distance .distance) (c .size .result) fits (c .size .ensures) (c .in-Continue-distance .ensures tt) in
-  λ b means. c .if-not-reaches .ensures tt (subst (Reaches e) (sym told) (meant-reaches e z (parts .0) (parts .1) means))
+pub returns-in-Break-entry : need.returns-in-Break-entry
+returns-in-Break-entry c =
+  rw (c .from-residual-in-Break-entry .ensures)
+  (λ b means. unlisted-none table b means laws _ _ (c .in-Continue-instruction .ensures tt) (c .in-Break-entry .ensures tt))
 
 pub returns : need.returns
 returns c =
-  let e = c .in-Continue-parts .parts .encoding in
-  let z = c .in-Continue-parts .parts .displacement in
   let entry = c .in-Continue-entry .entry in
-  let fits : SFits w32 z = search needs in
-  let told = distance-told e z (c .in-Continue-distance .distance) (c .size .result) fits (c .size .ensures) (c .in-Continue-distance .ensures tt) in
+  let d = c .in-Continue-instruction .instruction .distance in
+  let fits : SFits w32 d = search needs in
   let is-kind : entry .kind < 2 ^ 32 = search needs in
-  meant (entry .kind) (entry .form) _ z e (c .in-Continue-entry .ensures tt) is-kind (c .if-not-reaches .ensures tt) told (c .in-Continue-parts .ensures tt .0)
+  meant-by table (entry .kind) (entry .form) _ _ (c .in-Continue-entry .ensures tt) (sym (toZ-ofZ w32 d fits)) is-kind (c .args .bytes .now) (c .in-Continue-instruction .ensures tt)
