@@ -18,7 +18,7 @@ use Rattle.target.specs.declared.interface.Branch.{Branch}
 use Rattle.target.specs.declared.interface.WriteFault.{WriteFault}
 use Rattle.target.specs.Meaning.{Exists, Lawful, Writable, highest, lowest}
 use Rattle.target.specs.Refusals.{Judged, Means, Written, writeTable}
-use Rattle.target.specs.Table.{Encoded, Spells, Table, Takes, Unlisted, Unspelled, encodeTable, encoding, ofForm, tabled}
+use Rattle.target.specs.Table.{Encoded, Spells, Table, Takes, Unspelled, encodeTable, encoding, ofForm, tabled}
 
 -- what is asked of a table's encodings
 pub record TableLaws {E : Type 0} (t : Table E) : Type 0 where
@@ -87,18 +87,13 @@ module _ {E : Type 0} (t : Table E) where
     written-here before after (Ok x) h = subst (λ o. after ≡ ofForm [] (λ x. t .bytes x d) o ++ drop (ofForm 0 (t .size) o) before) (sym is) h
     written-here before after (Err fault) h = h
 
-    -- writing and reading the kind and form is writing and reading their encoding, with the distance under any name
+    -- writing the kind and form is writing their encoding, with the distance under any name
     module _ {d′ : ℤ} (same : d′ ≡ d) where
       pub judged-by : k < 2 ^ 32 → (room : ℕ) (answer : Option ℕ) → Judged (encodeTable t e d′ room) answer → Judged (writeTable (tabled t) k f d room) answer
       judged-by is-kind room answer j = judged-here is-kind room answer (subst (λ z. Judged (encodeTable t e z room) answer) same j)
 
       pub written-by : {X : Type 0} (before after : List ℕ) (r : Result X WriteFault) → Encoded t e d′ before r after → Written (tabled t) k f d before r after
       written-by before after r h = written-here before after r (subst (λ z. Encoded t e z before r after) same h)
-
-      pub meant-by : k < 2 ^ 32 → (bs : List ℕ) → Spells t bs e d′ → Means (tabled t) bs (record { kind = k; form = f; distance = d })
-      meant-by is-kind bs spells =
-        let here = subst (Spells t bs e) same spells in
-        record { is-writable = writable-by is-kind (here .takes); has-bytes = bytes-by ∙ here .has-bytes }
 
   -- a branch that means these bytes spells them by its encoding
   module _ {bs : List ℕ} (b : Branch) (means : Means (tabled t) bs b) where
@@ -113,11 +108,6 @@ module _ {E : Type 0} (t : Table E) where
 
     pub unspelled-none : Unspelled t bs → ⊥
     unspelled-none none = none (row .0) (b .distance) spelled
-
-    pub unlisted-none : TableLaws t → (e : E) (d : ℤ) → Spells t bs e d → Unlisted t e → ⊥
-    unlisted-none laws e d spells none =
-      let same = laws .bytes-apart e (row .0) d (b .distance) (spells .takes) (spelled .takes) (spells .has-bytes ∙ sym (spelled .has-bytes)) in
-      none (b .kind) (b .form) (row .1 ∙ ap Some (sym (same .0)))
 
   module _ (laws : TableLaws t) where
     apart : (k k′ f f′ : ℕ) (d d′ : ℤ) → Writable (tabled t) k f d → Writable (tabled t) k′ f′ d′ → tabled t .bytes k f d ≡ tabled t .bytes k′ f′ d′ → (k ≡ k′) × (f ≡ f′) × (d ≡ d′)

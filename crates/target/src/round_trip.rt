@@ -1,7 +1,8 @@
 // Writing and reading undo each other, for every target.
 ghost use mathlib.Core.Path.{_≡_};
-ghost use lib.ListN.{length};
-ghost use Rattle.target.specs.Refusals.{Judged, ReadBack, WrittenBack, Written, refusal, writeTable};
+ghost use Prim.Native.Nat.{_≤_};
+ghost use lib.ListN.{length, take};
+ghost use Rattle.target.specs.Refusals.{Judged, ReadBack, Reading, WrittenBack, Written, refusal, writeTable};
 use crate::interface::Branch;
 use crate::interface::Target;
 use crate::interface::WriteFault;
@@ -13,8 +14,16 @@ pub fn write_then_read<T: Target>(target: &T, kind: u32, form: u32, distance: i3
     ensures same { λ r. ⌜ ReadBack kind form distance r ⌝ }
 {
     target.write(kind, form, distance, out)?;
+    Ok(read_front(target, kind, form, out))
+}
+
+// Reads as many bytes at the front of `out` as the form has.
+fn read_front<T: Target>(target: &T, kind: u32, form: u32, out: &[u8]) -> Option<Branch>
+    requires { ⌜ T·Target .meaning (now target) .size kind form ≤ length (now out) ⌝ }
+    ensures { λ r. ⌜ Reading (T·Target .meaning (now (target .entry))) (take (T·Target .meaning (now (target .entry)) .size kind form) (now (out .entry))) r ⌝ }
+{
     let size = target.size(kind, form) as usize;
-    Ok(target.read(&out[0..size]))
+    target.read(&out[0..size])
 }
 
 // Reads a branch, and writes what was read at the front of `out`.

@@ -7,17 +7,16 @@ use lib.IntN.{ℤ, pos, _+ℤ_, _-ℤ_}
 use mir.Syntax.{w32}
 use mir.Val.{SFits, ofZ, toZ}
 use Rattle.std.proofs.shelf.Signed.{ints, toZ-ofZ}
+use Rattle.std.specs.Numbers.{Checked}
+use Rattle.std.specs.declared.option.Option.{Option}
+use Rattle.std.specs.declared.option.Option.the-variants.{Some, None}
 use Rattle.target.specs.Table.{Spells, Takes}
 use Rattle.x86.specs.declared.encodings.Encoding.{Encoding}
 use Rattle.x86.specs.declared.encodings.Encoding.the-variants.{Short, Near, Escaped}
+use Rattle.x86.specs.declared.layout.Instruction.{Instruction}
 use Rattle.x86.specs.Encodings.{size, storing, table}
-use Rattle.x86.specs.Stores.{InWidth}
+use Rattle.x86.specs.Stores.{Decoded, InWidth}
 use Rattle.x86.proofs.Laws.{in-width, storing-apart}
-
-pub displacement-is : (e : Encoding) (d : ℤ) (n : ℕ) → SFits w32 d → Takes table e d → n ≡ size e → toZ w32 (ofZ w32 (toZ w32 (ofZ w32 d) -ℤ toZ w32 n)) ≡ d -ℤ pos (size e)
-displacement-is (Short op) d n fits takes is = omega (arith, ints, takes .from-low, takes .to-high)
-displacement-is (Near op) d n fits takes is = omega (arith, ints, takes .from-low, takes .to-high)
-displacement-is (Escaped op) d n fits takes is = omega (arith, ints, takes .from-low, takes .to-high)
 
 pub sum-is : (e : Encoding) (z : ℤ) (n : ℕ) → SFits w32 z → n ≡ size e → toZ w32 (ofZ w32 z) +ℤ toZ w32 n ≡ z +ℤ pos (size e)
 sum-is (Short op) z n fits is = omega (arith, ints)
@@ -36,12 +35,15 @@ less : (d z : ℤ) (n : ℕ) → d ≡ z +ℤ pos n → d -ℤ pos n ≡ z
 less d z n sum = omega (arith, ints)
 
 -- bytes that store a displacement, and the distance that they then spell
-module _ {bs : List ℕ} (e : Encoding) (z : ℤ) (are : storing e z ≡ bs) where
-  pub spelled-by : (d : ℤ) → d ≡ z +ℤ pos (size e) → Takes table e d → Spells table bs e d
-  spelled-by d sum takes = record { takes = takes; has-bytes = ap (storing e) (less d z (size e) sum) ∙ are }
-
-  pub spelled-takes : InWidth e z → (e′ : Encoding) (d : ℤ) → Spells table bs e′ d → Takes table e (z +ℤ pos (size e))
-  spelled-takes fits e′ d spells =
+module _ {bs : List ℕ} (e : Encoding) (z : ℤ) (are : storing e z ≡ bs) (fits : InWidth e z) where
+  pub spelled-takes : (e′ : Encoding) (d : ℤ) → Spells table bs e′ d → Takes table e (z +ℤ pos (size e))
+  spelled-takes e′ d spells =
     let parts = storing-apart e e′ z _ fits (in-width e′ d (spells .takes)) (are ∙ sym (spells .has-bytes)) in
     let sum : d ≡ z +ℤ pos (size e) = omega (arith, ints, parts .1, ap size (parts .0)) in
     subst (Takes table e) sum (subst (λ x. Takes table x d) (sym (parts .0)) (spells .takes))
+
+  pub decoded-by : (d : ℤ) → d ≡ z +ℤ pos (size e) → (r : Option Instruction) → Checked r (Takes table e d) (record { encoding = e; distance = d }) → Decoded bs r
+  decoded-by d sum None out = λ e′ d′ spells. out (subst (Takes table e) (sym sum) (spelled-takes e′ d′ spells))
+  decoded-by d sum (Some i) within =
+    let spells : Spells table bs e d = record { takes = within .0; has-bytes = ap (storing e) (less d z (size e) sum) ∙ are } in
+    subst (λ (x : Instruction). Spells table bs (x .encoding) (x .distance)) (sym (within .1)) spells

@@ -2,9 +2,11 @@
 ghost use mathlib.Core.Path.{_≡_};
 ghost use mathlib.Core.List.{_++_};
 ghost use Prim.Native.Nat.{_≤_};
+ghost use lib.IntN.{_-ℤ_, pos};
 ghost use lib.ListN.{drop, length};
+ghost use Rattle.std.specs.Numbers.{Checked};
 ghost use Rattle.target.specs.Refusals.{Judged, refusal};
-ghost use Rattle.target.specs.Table.{Encoded, encodeTable};
+ghost use Rattle.target.specs.Table.{Encoded, Takes, encodeTable};
 ghost use Rattle.x86.specs.Encodings.{size as sizeOf, storing, table};
 ghost use Rattle.x86.specs.Stores.{Decoded, InWidth, Parted};
 use crate::encodings::Encoding;
@@ -47,6 +49,14 @@ fn put(encoding: Encoding, displacement: i32, out: &mut [u8])
     }
 }
 
+// The displacement that an instruction stores for a distance.
+fn displacement(encoding: Encoding, distance: i32) -> i32
+    requires { ⌜ Takes table encoding distance ⌝ }
+    ensures { λ r. ⌜ r ≡ distance -ℤ pos (sizeOf encoding) ⌝ }
+{
+    distance - encoding.size() as i32
+}
+
 // Writes the instruction at the front of `out`, or refuses and leaves `out` as it was.
 pub fn encode(encoding: Encoding, distance: i32, out: &mut [u8]) -> Result<(), WriteFault>
     ensures refuses { λ r. ⌜ Judged (encodeTable table encoding distance (length (now (out .entry)))) (refusal r) ⌝ }
@@ -58,7 +68,7 @@ pub fn encode(encoding: Encoding, distance: i32, out: &mut [u8]) -> Result<(), W
     if out.len() < encoding.size() as usize {
         return Err(WriteFault::OutputShort);
     }
-    put(encoding, distance - encoding.size() as i32, out);
+    put(encoding, displacement(encoding, distance), out);
     Ok(())
 }
 
@@ -83,6 +93,17 @@ fn take_apart(bytes: &[u8]) -> Option<Stored>
     }
 }
 
+// The instruction with this encoding and distance, where it can be written.
+fn within_reach(encoding: Encoding, distance: i32) -> Option<Instruction>
+    ensures { λ r. ⌜ Checked r (Takes table encoding distance) (record { encoding = encoding; distance = distance }) ⌝ }
+{
+    if encoding.takes(distance) {
+        Some(Instruction { encoding, distance })
+    } else {
+        None
+    }
+}
+
 // The encoding and distance of exactly these bytes, whatever their opcode.
 pub fn decode(bytes: &[u8]) -> Option<Instruction>
     ensures { λ r. ⌜ Decoded (now (bytes .entry)) r ⌝ }
@@ -90,8 +111,5 @@ pub fn decode(bytes: &[u8]) -> Option<Instruction>
     let stored = take_apart(bytes)?;
     let encoding = stored.encoding;
     let distance = stored.displacement.checked_add(encoding.size() as i32)?;
-    if !encoding.takes(distance) {
-        return None;
-    }
-    Some(Instruction { encoding, distance })
+    within_reach(encoding, distance)
 }

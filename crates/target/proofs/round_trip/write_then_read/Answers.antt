@@ -1,6 +1,5 @@
 use borrow.Author.Needs.{needs}
-use mathlib.Core.Path.{_≡_}
-use Prim.Native.Nat.{_-_}
+use mathlib.Core.Path.{refl}
 use lib.ListN.{length}
 use native.Mathlib.Omega.{arith}
 use mir.Syntax.{w32}
@@ -26,4 +25,4 @@ returns g c =
   let refuses = judged-at m (c .args .kind) (c .args .form) (c .args .distance) same _ None (wrote .refuses) in
   let after = written-at m (c .args .kind) (c .args .form) (c .args .distance) same (c .args .out .now) (c .write .last .out) (wrote .after) in
   let writable = taken-writable m (c .args .kind) (c .args .form) (c .args .distance) (length (c .args .out .now)) (omega arith) refuses in
-  record { refuses = refuses; after = after; same = read-front m (c .args .kind) (c .args .form) (c .args .distance) laws writable (c .size-size .result - 0) (c .write .last .out) _ (omega (arith, c .size-size .ensures)) after (c .read .result) (c .read .ensures) }
+  record { refuses = refuses; after = after; same = read-front m (c .args .kind) (c .args .form) (c .args .distance) laws writable (m .size (c .args .kind) (c .args .form)) (c .write .last .out) _ refl after (c .read-front .result) (c .read-front .ensures) }
