@@ -6,6 +6,8 @@ use target::WriteFault;
 
 mod encodings;
 mod layout;
+#[cfg(test)]
+mod tests;
 
 use encodings::Encoding;
 
