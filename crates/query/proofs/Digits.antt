@@ -48,12 +48,12 @@ module _ (word digits : List ℕ) (minus : getD word 0 0 ≡ 45) (are : digits �
 
   pub no-digits : (Numeral 10 digits × (value 10 digits < 2 ^ 32) → ⊥) → Numeral 10 (afterMinus word) × SFits w32 (integer word) → ⊥
   no-digits none h =
-    let fits = subst (SFits w32) integer-is (h .1) in
-    none (subst (Numeral 10) after-is (h .0), omega (arith, ints, fits))
+      let fits = subst (SFits w32) integer-is (h .1) in
+      none (subst (Numeral 10) after-is (h .0), omega (arith, ints, fits))
 
   pub negated-is : (r : Option ℤ) (n : ℕ) → Numeral 10 digits → n ≡ value 10 digits → Checked r (n ≤ 2 ^ 31) (negℤ (pos n)) → Checked r (Numeral 10 (afterMinus word) × SFits w32 (integer word)) (integer word)
   negated-is r n numeral is h =
-    checked-like r
-    (λ small. (subst (Numeral 10) (sym after-is) numeral, subst (SFits w32) (sym integer-is) (omega (arith, ints, small, is))))
-    (λ q. let fits = subst (SFits w32) integer-is (q .1) in omega (arith, ints, fits, is))
-    (ap (λ m. negℤ (pos m)) is ∙ sym integer-is) h
+      checked-like r
+      (λ small. (subst (Numeral 10) (sym after-is) numeral, subst (SFits w32) (sym integer-is) (omega (arith, ints, small, is))))
+      (λ q. let fits = subst (SFits w32) integer-is (q .1) in omega (arith, ints, fits, is))
+      (ap (λ m. negℤ (pos m)) is ∙ sym integer-is) h

@@ -26,19 +26,19 @@ mapped-push bytes b (Some bs) = ap Some (sym (append-assoc bytes (b ∷ []) bs))
 -- a byte read from the front of what is left
 pub unhex-pushed : (whole : Option (List ℕ)) (bytes pushed rest tail : List ℕ) (b : ℕ) → whole ≡ mapped (λ bs. bytes ++ bs) (unhex rest) → 2 ≤ length rest → tail ≡ drop 2 rest → ((digitValue (getD rest 0 0) < 16) × (digitValue (getD rest 1 0) < 16)) × (b ≡ digitValue (getD rest 0 0) * 16 + digitValue (getD rest 1 0)) → pushed ≡ bytes ++ (b ∷ []) → whole ≡ mapped (λ bs. pushed ++ bs) (unhex tail)
 unhex-pushed whole bytes pushed rest tail b so-far long is digits push =
-  so-far
-  ∙ ap (mapped (λ bs. bytes ++ bs)) (unhex-more rest long (digits .0 .0) (digits .0 .1))
-  ∙ mapped-push bytes _ (unhex (drop 2 rest))
-  ∙ ap (λ x. mapped (λ bs. (bytes ++ (x ∷ [])) ++ bs) (unhex (drop 2 rest))) (sym (digits .1))
-  ∙ ap (λ xs. mapped (λ bs. xs ++ bs) (unhex (drop 2 rest))) (sym push)
-  ∙ ap (λ t. mapped (λ bs. pushed ++ bs) (unhex t)) (sym is)
+    so-far
+    ∙ ap (mapped (λ bs. bytes ++ bs)) (unhex-more rest long (digits .0 .0) (digits .0 .1))
+    ∙ mapped-push bytes _ (unhex (drop 2 rest))
+    ∙ ap (λ x. mapped (λ bs. (bytes ++ (x ∷ [])) ++ bs) (unhex (drop 2 rest))) (sym (digits .1))
+    ∙ ap (λ xs. mapped (λ bs. xs ++ bs) (unhex (drop 2 rest))) (sym push)
+    ∙ ap (λ t. mapped (λ bs. pushed ++ bs) (unhex t)) (sym is)
 
 -- a byte written after the others
 pub hex-pushed : (before now one two : List ℕ) (bytes : List ℕ) (i high low : ℕ) → now ≡ before ++ hex (take i bytes) → i < length bytes → high ≡ digitChar (getD bytes i 0 / 16) → low ≡ digitChar (getD bytes i 0 % 16) → one ≡ now ++ (high ∷ []) → two ≡ one ++ (low ∷ []) → two ≡ before ++ hex (take (i + 1) bytes)
 hex-pushed before now one two bytes i high low so-far within h l first second =
-  second ∙ ap (λ xs. xs ++ (low ∷ [])) first ∙ append-assoc now (high ∷ []) (low ∷ [])
-  ∙ ap (λ xs. xs ++ (high ∷ low ∷ [])) so-far
-  ∙ ap (λ x. (before ++ hex (take i bytes)) ++ (x ∷ low ∷ [])) h
-  ∙ ap (λ x. (before ++ hex (take i bytes)) ++ (digitChar (getD bytes i 0 / 16) ∷ x ∷ [])) l
-  ∙ joined-more twoDigits before (take i bytes) (getD bytes i 0)
-  ∙ ap (λ xs. before ++ hex xs) (sym (take-more bytes i 0 within))
+    second ∙ ap (λ xs. xs ++ (low ∷ [])) first ∙ append-assoc now (high ∷ []) (low ∷ [])
+    ∙ ap (λ xs. xs ++ (high ∷ low ∷ [])) so-far
+    ∙ ap (λ x. (before ++ hex (take i bytes)) ++ (x ∷ low ∷ [])) h
+    ∙ ap (λ x. (before ++ hex (take i bytes)) ++ (digitChar (getD bytes i 0 / 16) ∷ x ∷ [])) l
+    ∙ joined-more twoDigits before (take i bytes) (getD bytes i 0)
+    ∙ ap (λ xs. before ++ hex xs) (sym (take-more bytes i 0 within))

@@ -16,4 +16,4 @@ extended (Err y) after before more text h same = tt
 -- four texts, one after another
 pub appended : (a b c d e r s t u : List ℕ) → a ≡ [] → r ≡ a ++ b → s ≡ r ++ c → t ≡ s ++ d → u ≡ t ++ e → u ≡ b ++ (c ++ (d ++ e))
 appended a b c d e r s t u none p q v w =
-  w ∙ ap (λ xs. xs ++ e) (v ∙ ap (λ xs. xs ++ d) (q ∙ ap (λ xs. xs ++ c) (p ∙ ap (λ xs. xs ++ b) none))) ∙ append-assoc (b ++ c) d e ∙ append-assoc b c (d ++ e)
+    w ∙ ap (λ xs. xs ++ e) (v ∙ ap (λ xs. xs ++ d) (q ∙ ap (λ xs. xs ++ c) (p ∙ ap (λ xs. xs ++ b) none))) ∙ append-assoc (b ++ c) d e ∙ append-assoc b c (d ++ e)

@@ -38,11 +38,11 @@ text NotUnderstood = codes "not understood"
 -- the right answer to a line: to what it asks of x86, or that it is not understood
 abbrev pub Right : List ℕ → Answer → Type 0
 Right line a =
-  ((q : Question) × Asks (words line) q × Answered x86 q a)
-  ⊎ (((q : Question) → Asks (words line) q → ⊥) × (a ≡ NotUnderstood))
+    ((q : Question) × Asks (words line) q × Answered x86 q a)
+    ⊎ (((q : Question) → Asks (words line) q → ⊥) × (a ≡ NotUnderstood))
 
 -- the reply to a line: nothing to a blank one, else the line, its answer and a line end
 abbrev pub Replied : List ℕ → List ℕ → Type 0
 Replied line reply =
-  ((words line ≡ []) × (reply ≡ []))
-  ⊎ ((words line ≡ [] → ⊥) × ((a : Answer) × Right line a × (reply ≡ line ++ (codes " = " ++ (text a ++ (10 ∷ []))))))
+    ((words line ≡ []) × (reply ≡ []))
+    ⊎ ((words line ≡ [] → ⊥) × ((a : Answer) × Right line a × (reply ≡ line ++ (codes " = " ++ (text a ++ (10 ∷ []))))))

@@ -60,4 +60,4 @@ abbrev pub unhex : List ℕ → Option (List ℕ)
 unhex [] = Some []
 unhex (high ∷ []) = None
 unhex (high ∷ low ∷ word) =
-  cond (ltb (digitValue high) 16 && ltb (digitValue low) 16) (mapped (λ bs. (digitValue high * 16 + digitValue low) ∷ bs) (unhex word)) None
+    cond (ltb (digitValue high) 16 && ltb (digitValue low) 16) (mapped (λ bs. (digitValue high * 16 + digitValue low) ∷ bs) (unhex word)) None

@@ -42,7 +42,11 @@ fn digit(value: u8) -> u8
     requires { ⌜ value < 16 ⌝ }
     ensures { λ r. ⌜ r ≡ digitChar value ⌝ }
 {
-    if value < 10 { b'0' + value } else { b'a' - 10 + value }
+    if value < 10 {
+        b'0' + value
+    } else {
+        b'a' - 10 + value
+    }
 }
 
 // Appends bytes in lowercase hexadecimal.

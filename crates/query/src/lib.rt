@@ -10,5 +10,4 @@ pub use answers::Answer;
 pub use answers::answer_query;
 pub use queries::Query;
 pub use queries::understand;
-pub use texts::push_answer;
 pub use texts::reply;

@@ -15,7 +15,7 @@ use x86::X86;
 use x86::X86Target;
 
 // Appends the text of an answer.
-pub fn push_answer(heap: Global, out: &mut Vec<u8>, answer: &Answer) -> Result<(), AllocError>
+fn push_answer(heap: Global, out: &mut Vec<u8>, answer: &Answer) -> Result<(), AllocError>
     ensures { λ r. ⌜ made r (λ _. vec-items (now (out .exit)) ≡ vec-items (now (out .entry)) ++ textOf (now (answer .entry))) ⌝ }
 {
     match answer {

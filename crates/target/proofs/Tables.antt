@@ -78,10 +78,10 @@ module _ {E : Type 0} (t : Table E) where
 
     judged-here : k < 2 ^ 32 → (room : ℕ) (answer : Option ℕ) → Judged (encodeTable t e d room) answer → Judged (writeTable (tabled t) k f d room) answer
     judged-here is-kind room answer (inl h) =
-      inr ((λ none. let within = nth-within (t .encodings k) f e is in omega arith), inl ((λ w. h .0 (taken-by w)), h .1))
+        inr ((λ none. let within = nth-within (t .encodings k) f e is in omega arith), inl ((λ w. h .0 (taken-by w)), h .1))
     judged-here is-kind room answer (inr h) =
-      let due : ((room < t .size e) × (answer ≡ Some 13)) ⊎ (((room < t .size e) → ⊥) × (answer ≡ None)) = h .1 in
-      inr ((λ none. let within = nth-within (t .encodings k) f e is in omega arith), inr ((λ n. h .0 (λ takes. n (writable-by is-kind takes))), subst (λ n. ((room < n) × (answer ≡ Some 13)) ⊎ (((room < n) → ⊥) × (answer ≡ None))) (sym size-by) due))
+        let due : ((room < t .size e) × (answer ≡ Some 13)) ⊎ (((room < t .size e) → ⊥) × (answer ≡ None)) = h .1 in
+        inr ((λ none. let within = nth-within (t .encodings k) f e is in omega arith), inr ((λ n. h .0 (λ takes. n (writable-by is-kind takes))), subst (λ n. ((room < n) × (answer ≡ Some 13)) ⊎ (((room < n) → ⊥) × (answer ≡ None))) (sym size-by) due))
 
     written-here : {X : Type 0} (before after : List ℕ) (r : Result X WriteFault) → Encoded t e d before r after → Written (tabled t) k f d before r after
     written-here before after (Ok x) h = subst (λ o. after ≡ ofForm [] (λ x. t .bytes x d) o ++ drop (ofForm 0 (t .size) o) before) (sym is) h
@@ -112,11 +112,11 @@ module _ {E : Type 0} (t : Table E) where
   module _ (laws : TableLaws t) where
     apart : (k k′ f f′ : ℕ) (d d′ : ℤ) → Writable (tabled t) k f d → Writable (tabled t) k′ f′ d′ → tabled t .bytes k f d ≡ tabled t .bytes k′ f′ d′ → (k ≡ k′) × (f ≡ f′) × (d ≡ d′)
     apart k k′ f f′ d d′ w w′ same =
-      let e = encoded k f (w .is-there) in
-      let e′ = encoded k′ f′ (w′ .is-there) in
-      let parts = laws .bytes-apart (e .0) (e′ .0) d d′ (taken-by k f d (e .0) (e .1) w) (taken-by k′ f′ d′ (e′ .0) (e′ .1) w′) (sym (bytes-by k f d (e .0) (e .1)) ∙ same ∙ bytes-by k′ f′ d′ (e′ .0) (e′ .1)) in
-      let entries = laws .entries-apart k k′ f f′ (e .0) (e .1) (e′ .1 ∙ ap Some (sym (parts .0))) in
-      (entries .0, entries .1, parts .1)
+        let e = encoded k f (w .is-there) in
+        let e′ = encoded k′ f′ (w′ .is-there) in
+        let parts = laws .bytes-apart (e .0) (e′ .0) d d′ (taken-by k f d (e .0) (e .1) w) (taken-by k′ f′ d′ (e′ .0) (e′ .1) w′) (sym (bytes-by k f d (e .0) (e .1)) ∙ same ∙ bytes-by k′ f′ d′ (e′ .0) (e′ .1)) in
+        let entries = laws .entries-apart k k′ f f′ (e .0) (e .1) (e′ .1 ∙ ap Some (sym (parts .0))) in
+        (entries .0, entries .1, parts .1)
 
     pub tabled-lawful : Lawful (tabled t)
     tabled-lawful = record {

@@ -24,7 +24,7 @@ passed (inr h) = h
 
 branch-is : (b : Branch) {k f : ℕ} {d : ℤ} → b .kind ≡ k → b .form ≡ f → b .distance ≡ d → b ≡ record { kind = k; form = f; distance = d }
 branch-is b {k} {f} {d} p q r =
-  let e : _≡_ {A = Branch} (record { kind = b .kind; form = b .form; distance = b .distance }) (record { kind = k; form = f; distance = d }) = cc in e
+    let e : _≡_ {A = Branch} (record { kind = b .kind; form = b .form; distance = b .distance }) (record { kind = k; form = f; distance = d }) = cc in e
 
 -- the same bytes over the same memory
 pub again : {bytes read : List ℕ} {n : ℕ} → bytes ≡ read → length bytes ≡ n → (before : List ℕ) → bytes ++ drop n before ≡ read ++ drop (length read) before
@@ -50,8 +50,8 @@ module _ (m : Meaning) (k f : ℕ) (d : ℤ) where
   -- a writable triple with room for it is taken
   pub judged-taken : (room : ℕ) → Writable m k f d → m .size k f ≤ room → Judged (writeTable m k f d room) None
   judged-taken room w fits =
-    let is-form = w .is-there .is-form in
-    inr ((λ none. omega arith), inr ((λ n. n w), inr ((λ short. omega arith), refl)))
+      let is-form = w .is-there .is-form in
+      inr ((λ none. omega arith), inr ((λ n. n w), inr ((λ short. omega arith), refl)))
 
   -- what a call answered at a distance that is d under another name
   pub judged-at : {e : ℤ} → e ≡ d → (room : ℕ) (answer : Option ℕ) → Judged (writeTable m k f e room) answer → Judged (writeTable m k f d room) answer
@@ -63,8 +63,8 @@ module _ (m : Meaning) (k f : ℕ) (d : ℤ) where
   read-back : Lawful m → Writable m k f d → (answer : Option Branch) → Reading m (m .bytes k f d) answer → answer ≡ Some (record { kind = k; form = f; distance = d })
   read-back laws w None none = absurd (none (record { kind = k; form = f; distance = d }) (record { is-writable = w; has-bytes = refl }))
   read-back laws w (Some b) means =
-    let same = laws .bytes-apart (b .kind) k (b .form) f (b .distance) d (means .is-writable) w (means .has-bytes) in
-    ap Some (branch-is b (same .0) (same .1) (same .2))
+      let same = laws .bytes-apart (b .kind) k (b .form) f (b .distance) d (means .is-writable) w (means .has-bytes) in
+      ap Some (branch-is b (same .0) (same .1) (same .2))
 
   -- the first n bytes of what was written, n being the form's size
   module _ (laws : Lawful m) (w : Writable m k f d) (n : ℕ) (after rest : List ℕ) (long : n ≡ m .size k f) (h : after ≡ m .bytes k f d ++ rest) where

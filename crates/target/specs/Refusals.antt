@@ -37,9 +37,9 @@ refusal (Err fault) = Some (code fault)
 -- when writing is refused, with room for so many bytes
 abbrev pub writeTable : Meaning → ℕ → ℕ → ℤ → ℕ → List Refusal
 writeTable m kind form distance room =
-  record { code = 6; when = m .forms kind ≡ 0 }
-  ∷ record { code = 14; when = Writable m kind form distance → ⊥ }
-  ∷ record { code = 13; when = room < m .size kind form } ∷ []
+    record { code = 6; when = m .forms kind ≡ 0 }
+    ∷ record { code = 14; when = Writable m kind form distance → ⊥ }
+    ∷ record { code = 13; when = room < m .size kind form } ∷ []
 
 -- memory after writing: the bytes at its front and the rest as it was, or, refused, all as it was
 abbrev pub Written : {T : Type 0} → Meaning → ℕ → ℕ → ℤ → List ℕ → Result T WriteFault → List ℕ → Type 0

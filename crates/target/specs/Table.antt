@@ -52,8 +52,8 @@ pub record Takes {E : Type 0} (t : Table E) (e : E) (distance : ℤ) : Type 0 wh
 -- when writing an encoding is refused, with room for so many bytes
 abbrev pub encodeTable : {E : Type 0} → Table E → E → ℤ → ℕ → List Refusal
 encodeTable t e distance room =
-  record { code = 14; when = Takes t e distance → ⊥ }
-  ∷ record { code = 13; when = room < t .size e } ∷ []
+    record { code = 14; when = Takes t e distance → ⊥ }
+    ∷ record { code = 13; when = room < t .size e } ∷ []
 
 -- memory after writing an encoding, or after a refusal
 abbrev pub Encoded : {E X : Type 0} → Table E → E → ℤ → List ℕ → Result X WriteFault → List ℕ → Type 0

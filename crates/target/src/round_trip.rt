@@ -8,7 +8,13 @@ use crate::interface::Target;
 use crate::interface::WriteFault;
 
 // Writes a branch, and reads what then stands at the front of `out`.
-pub fn write_then_read<T: Target>(target: &T, kind: u32, form: u32, distance: i32, out: &mut [u8]) -> Result<Option<Branch>, WriteFault>
+pub fn write_then_read<T: Target>(
+    target: &T,
+    kind: u32,
+    form: u32,
+    distance: i32,
+    out: &mut [u8],
+) -> Result<Option<Branch>, WriteFault>
     ensures refuses { λ r. ⌜ Judged (writeTable (T·Target .meaning (now (target .entry))) kind form distance (length (now (out .entry)))) (refusal r) ⌝ }
     ensures after { λ r. ⌜ Written (T·Target .meaning (now (target .entry))) kind form distance (now (out .entry)) r (now (out .exit)) ⌝ }
     ensures same { λ r. ⌜ ReadBack kind form distance r ⌝ }
@@ -27,7 +33,11 @@ fn read_front<T: Target>(target: &T, kind: u32, form: u32, out: &[u8]) -> Option
 }
 
 // Reads a branch, and writes what was read at the front of `out`.
-pub fn read_then_write<T: Target>(target: &T, bytes: &[u8], out: &mut [u8]) -> Result<Option<Branch>, WriteFault>
+pub fn read_then_write<T: Target>(
+    target: &T,
+    bytes: &[u8],
+    out: &mut [u8],
+) -> Result<Option<Branch>, WriteFault>
     ensures { λ r. ⌜ WrittenBack (T·Target .meaning (now (target .entry))) (now (bytes .entry)) (now (out .entry)) r (now (out .exit)) ⌝ }
 {
     let Some(branch) = target.read(bytes) else {

@@ -38,12 +38,12 @@ less d z n sum = omega (arith, ints)
 module _ {bs : List ℕ} (e : Encoding) (z : ℤ) (are : storing e z ≡ bs) (fits : InWidth e z) where
   pub spelled-takes : (e′ : Encoding) (d : ℤ) → Spells table bs e′ d → Takes table e (z +ℤ pos (size e))
   spelled-takes e′ d spells =
-    let parts = storing-apart e e′ z _ fits (in-width e′ d (spells .takes)) (are ∙ sym (spells .has-bytes)) in
-    let sum : d ≡ z +ℤ pos (size e) = omega (arith, ints, parts .1, ap size (parts .0)) in
-    subst (Takes table e) sum (subst (λ x. Takes table x d) (sym (parts .0)) (spells .takes))
+      let parts = storing-apart e e′ z _ fits (in-width e′ d (spells .takes)) (are ∙ sym (spells .has-bytes)) in
+      let sum : d ≡ z +ℤ pos (size e) = omega (arith, ints, parts .1, ap size (parts .0)) in
+      subst (Takes table e) sum (subst (λ x. Takes table x d) (sym (parts .0)) (spells .takes))
 
   pub decoded-by : (d : ℤ) → d ≡ z +ℤ pos (size e) → (r : Option Instruction) → Checked r (Takes table e d) (record { encoding = e; distance = d }) → Decoded bs r
   decoded-by d sum None out = λ e′ d′ spells. out (subst (Takes table e) (sym sum) (spelled-takes e′ d′ spells))
   decoded-by d sum (Some i) within =
-    let spells : Spells table bs e d = record { takes = within .0; has-bytes = ap (storing e) (less d z (size e) sum) ∙ are } in
-    subst (λ (x : Instruction). Spells table bs (x .encoding) (x .distance)) (sym (within .1)) spells
+      let spells : Spells table bs e d = record { takes = within .0; has-bytes = ap (storing e) (less d z (size e) sum) ∙ are } in
+      subst (λ (x : Instruction). Spells table bs (x .encoding) (x .distance)) (sym (within .1)) spells

@@ -77,29 +77,29 @@ bits-apart w z z′ fits fits′ same = sym (toZ-ofZ w z fits) ∙ ap (toZ w) sa
 
 four-apart : (z z′ : ℤ) → SFits w32 z → SFits w32 z′ → fourBytes (ofZ w32 z) ≡ fourBytes (ofZ w32 z′) → z ≡ z′
 four-apart z z′ fits fits′ same =
-  bits-apart w32 z z′ fits fits′ (four-bytes-apart (ofZ w32 z) (ofZ w32 z′) (ofZ-fits w32 z fits .fits) (ofZ-fits w32 z′ fits′ .fits) same)
+    bits-apart w32 z z′ fits fits′ (four-bytes-apart (ofZ w32 z) (ofZ w32 z′) (ofZ-fits w32 z fits .fits) (ofZ-fits w32 z′ fits′ .fits) same)
 
 -- an instruction's bytes tell its encoding and its displacement
 pub storing-apart : (e e′ : Encoding) (z z′ : ℤ) → InWidth e z → InWidth e′ z′ → storing e z ≡ storing e′ z′ → (e ≡ e′) × (z ≡ z′)
 storing-apart (Short op) (Short op′) z z′ fits fits′ same =
-  let ops : op ≡ op′ = cc in
-  let bits : ofZ w8 z ≡ ofZ w8 z′ = cc in
-  (ap Short ops, bits-apart w8 z z′ fits fits′ bits)
+    let ops : op ≡ op′ = cc in
+    let bits : ofZ w8 z ≡ ofZ w8 z′ = cc in
+    (ap Short ops, bits-apart w8 z z′ fits fits′ bits)
 storing-apart (Short op) (Near op′) z z′ fits fits′ same = absurd (omega (arith, ap length same))
 storing-apart (Short op) (Escaped op′) z z′ fits fits′ same = absurd (omega (arith, ap length same))
 storing-apart (Near op) (Short op′) z z′ fits fits′ same = absurd (omega (arith, ap length same))
 storing-apart (Near op) (Near op′) z z′ fits fits′ same =
-  let ops : op ≡ op′ = cc in (ap Near ops, four-apart z z′ fits fits′ (ap (drop 1) same))
+    let ops : op ≡ op′ = cc in (ap Near ops, four-apart z z′ fits fits′ (ap (drop 1) same))
 storing-apart (Near op) (Escaped op′) z z′ fits fits′ same = absurd (omega (arith, ap length same))
 storing-apart (Escaped op) (Short op′) z z′ fits fits′ same = absurd (omega (arith, ap length same))
 storing-apart (Escaped op) (Near op′) z z′ fits fits′ same = absurd (omega (arith, ap length same))
 storing-apart (Escaped op) (Escaped op′) z z′ fits fits′ same =
-  let ops : op ≡ op′ = cc in (ap Escaped ops, four-apart z z′ fits fits′ (ap (drop 2) same))
+    let ops : op ≡ op′ = cc in (ap Escaped ops, four-apart z z′ fits fits′ (ap (drop 2) same))
 
 bytes-apart : (e e′ : Encoding) (d d′ : ℤ) → Takes table e d → Takes table e′ d′ → bytes e d ≡ bytes e′ d′ → (e ≡ e′) × (d ≡ d′)
 bytes-apart e e′ d d′ takes takes′ same =
-  let parts = storing-apart e e′ _ _ (in-width e d takes) (in-width e′ d′ takes′) same in
-  (parts .0, omega (arith, ints, parts .1, ap size (parts .0)))
+    let parts = storing-apart e e′ _ _ (in-width e d takes) (in-width e′ d′ takes′) same in
+    (parts .0, omega (arith, ints, parts .1, ap size (parts .0)))
 
 pub in-step : (d : ℤ) → Multiple 1 d
 in-step (pos n) = let none : n % 1 ≡ 0 = omega arith in ap pos none

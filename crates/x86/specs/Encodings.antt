@@ -16,10 +16,10 @@ use Rattle.x86.specs.declared.encodings.Encoding.the-variants.{Short, Near, Es
 -- the encodings of each kind, smallest first; a conditional jump has the number of its condition
 abbrev pub encodings : ℕ → List Encoding
 encodings kind =
-  cond (ltb kind 16) (Short (0x70 + kind) ∷ Escaped (0x80 + kind) ∷ []) -- jcc
-  (cond (eqb kind 16) (Short 0xEB ∷ Near 0xE9 ∷ []) -- jmp
-  (cond (eqb kind 17) (Near 0xE8 ∷ []) -- call
-  (cond (eqb kind 18) (Short 0xE3 ∷ []) []))) -- jecxz
+    cond (ltb kind 16) (Short (0x70 + kind) ∷ Escaped (0x80 + kind) ∷ [])  -- jcc
+    (cond (eqb kind 16) (Short 0xEB ∷ Near 0xE9 ∷ [])  -- jmp
+    (cond (eqb kind 17) (Near 0xE8 ∷ [])  -- call
+    (cond (eqb kind 18) (Short 0xE3 ∷ []) [])))  -- jecxz
 
 abbrev pub opcode : Encoding → List ℕ
 opcode (Short op) = op ∷ []

@@ -8,7 +8,9 @@ ghost use Rattle.x86.specs.Stores.{Entered};
 
 // The kinds after the sixteen conditional jumps, whose kind is their condition.
 const JMP: u32 = 16;
+
 const CALL: u32 = 17;
+
 const JECXZ: u32 = 18;
 
 // The layout of an instruction with its opcode byte.
@@ -99,12 +101,24 @@ impl Encoding {
         ensures { λ r. ⌜ Entered self r ⌝ }
     {
         match self {
-            Encoding::Short(op @ 0x70..=0x7f) => Some(Entry { kind: u32::from(op - 0x70), form: 0 }),
+            Encoding::Short(op @ 0x70..=0x7f) => Some(Entry {
+                kind: u32::from(op - 0x70),
+                form: 0,
+            }),
             Encoding::Short(0xeb) => Some(Entry { kind: JMP, form: 0 }),
-            Encoding::Short(0xe3) => Some(Entry { kind: JECXZ, form: 0 }),
+            Encoding::Short(0xe3) => Some(Entry {
+                kind: JECXZ,
+                form: 0,
+            }),
             Encoding::Near(0xe9) => Some(Entry { kind: JMP, form: 1 }),
-            Encoding::Near(0xe8) => Some(Entry { kind: CALL, form: 0 }),
-            Encoding::Escaped(op @ 0x80..=0x8f) => Some(Entry { kind: u32::from(op - 0x80), form: 1 }),
+            Encoding::Near(0xe8) => Some(Entry {
+                kind: CALL,
+                form: 0,
+            }),
+            Encoding::Escaped(op @ 0x80..=0x8f) => Some(Entry {
+                kind: u32::from(op - 0x80),
+                form: 1,
+            }),
             _ => None,
         }
     }

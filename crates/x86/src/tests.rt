@@ -22,9 +22,15 @@ fn short_memory_is_refused_and_left() -> Result<(), Fail> {
 fn refusals_come_in_their_order() -> Result<(), Fail> {
     let mut out = [9u8; 1];
     check_eq(X86.write(19, 0, 0, &mut out), Err(WriteFault::UnknownKind))?;
-    check_eq(X86.write(16, 0, 130, &mut out), Err(WriteFault::NotWritable))?;
+    check_eq(
+        X86.write(16, 0, 130, &mut out),
+        Err(WriteFault::NotWritable),
+    )?;
     check_eq(X86.write(18, 1, 0, &mut out), Err(WriteFault::NotWritable))?;
-    check_eq(X86.write(16, 0, 129, &mut out), Err(WriteFault::OutputShort))?;
+    check_eq(
+        X86.write(16, 0, 129, &mut out),
+        Err(WriteFault::OutputShort),
+    )?;
     check_eq(out, [9])
 }
 
@@ -38,7 +44,11 @@ fn memory_after_the_branch_is_left() -> Result<(), Fail> {
 #[test]
 fn written_reads_back_and_read_writes_back() -> Result<(), Fail> {
     let mut out = [0u8; 6];
-    let jump = Branch { kind: 16, form: 1, distance: -2 };
+    let jump = Branch {
+        kind: 16,
+        form: 1,
+        distance: -2,
+    };
     let read = write_then_read(&X86, jump.kind, jump.form, jump.distance, &mut out);
     check(read == Ok(Some(jump)))?;
     let mut again = [0u8; 6];

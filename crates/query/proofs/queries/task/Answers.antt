@@ -10,24 +10,24 @@ use Rattle.query.proofs.queries.task.Needs as need
 
 pub returns-in-Some-2 : need.returns-in-Some-2
 returns-in-Some-2 c =
-  let verb = text-from-reads (c .in-Some .verb .text .now) (codes "read") (search needs) (search needs) in
-  let rest = words (c .in-Some .verb .rest .now) in
-  (rest, c .in-Some .ensures tt ∙ ap (λ w. w ∷ rest) verb, cases-at-some _ _ (c .in-Some-2 .bytes) (c .in-Some-2 .is) (c .in-Continue-bytes .ensures tt))
+    let verb = text-from-reads (c .in-Some .verb .text .now) (codes "read") (search needs) (search needs) in
+    let rest = words (c .in-Some .verb .rest .now) in
+    (rest, c .in-Some .ensures tt ∙ ap (λ w. w ∷ rest) verb, cases-at-some _ _ (c .in-Some-2 .bytes) (c .in-Some-2 .is) (c .in-Continue-bytes .ensures tt))
 
 pub returns-in-None : need.returns-in-None
 returns-in-None c =
-  let verb = text-from-reads (c .in-Some .verb .text .now) (codes "read") (search needs) (search needs) in
-  let rest = words (c .in-Some .verb .rest .now) in
-  no-bytes _ rest (c .in-Some .ensures tt ∙ ap (λ w. w ∷ rest) verb) (cases-at-none _ _ (c .in-None .is) (c .in-Continue-bytes .ensures tt))
+    let verb = text-from-reads (c .in-Some .verb .text .now) (codes "read") (search needs) (search needs) in
+    let rest = words (c .in-Some .verb .rest .now) in
+    no-bytes _ rest (c .in-Some .ensures tt ∙ ap (λ w. w ∷ rest) verb) (cases-at-none _ _ (c .in-None .is) (c .in-Continue-bytes .ensures tt))
 
 pub returns-in-Some-branch-words : need.returns-in-Some-branch-words
 returns-in-Some-branch-words c =
-  let verb = text-from-reads (c .in-Some .verb .text .now) (codes "write") (search needs) (search needs) in
-  let rest = words (c .in-Some .verb .rest .now) in
-  (rest, c .in-Some .ensures tt ∙ ap (λ w. w ∷ rest) verb, c .in-Some-branch-words .ensures tt)
+    let verb = text-from-reads (c .in-Some .verb .text .now) (codes "write") (search needs) (search needs) in
+    let rest = words (c .in-Some .verb .rest .now) in
+    (rest, c .in-Some .ensures tt ∙ ap (λ w. w ∷ rest) verb, c .in-Some-branch-words .ensures tt)
 
 pub returns-in-None-branch-words : need.returns-in-None-branch-words
 returns-in-None-branch-words c =
-  let verb = text-from-reads (c .in-Some .verb .text .now) (codes "write") (search needs) (search needs) in
-  let rest = words (c .in-Some .verb .rest .now) in
-  no-branch _ rest (c .in-Some .ensures tt ∙ ap (λ w. w ∷ rest) verb) (c .in-None-branch-words .ensures tt)
+    let verb = text-from-reads (c .in-Some .verb .text .now) (codes "write") (search needs) (search needs) in
+    let rest = words (c .in-Some .verb .rest .now) in
+    no-branch _ rest (c .in-Some .ensures tt ∙ ap (λ w. w ∷ rest) verb) (c .in-None-branch-words .ensures tt)

@@ -10,6 +10,6 @@ use Rattle.query.proofs.queries.understand.Needs as need
 
 pub returns-in-120 : need.returns-in-120
 returns-in-120 c =
-  let name = text-from-reads (c .in-Some .name .text .now) (codes "x86") (search needs) (search needs) in
-  let rest = words (c .in-Some .name .rest .now) in
-  made-weaker (c .task .result) _ _ (named (words (c .args .line .now)) rest (c .in-Some .ensures tt ∙ ap (λ w. w ∷ rest) name)) (c .task .ensures)
+    let name = text-from-reads (c .in-Some .name .text .now) (codes "x86") (search needs) (search needs) in
+    let rest = words (c .in-Some .name .rest .now) in
+    made-weaker (c .task .result) _ _ (named (words (c .args .line .now)) rest (c .in-Some .ensures tt ∙ ap (λ w. w ∷ rest) name)) (c .task .ensures)

@@ -5,4 +5,4 @@ use Rattle.query.proofs.texts.push_answer.Needs as need
 
 pub returns-in-NotUnderstood : need.returns-in-NotUnderstood
 returns-in-NotUnderstood c =
-  extended (c .extend-from-slice-in-NotUnderstood .result) _ _ _ _ (c .extend-from-slice-in-NotUnderstood .ensures .items) (c .as-bytes-in-NotUnderstood .ensures .value ∙ sym (ap text (c .in-NotUnderstood .is)))
+    extended (c .extend-from-slice-in-NotUnderstood .result) _ _ _ _ (c .extend-from-slice-in-NotUnderstood .ensures .items) (c .as-bytes-in-NotUnderstood .ensures .value ∙ sym (ap text (c .in-NotUnderstood .is)))

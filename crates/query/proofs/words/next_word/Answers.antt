@@ -12,12 +12,12 @@ returns-then-start-line c = no-word (c .args .line .now) (c .gap-start .result) 
 
 pub returns : need.returns
 returns c =
-  let line = c .args .line .now in
-  let start = c .gap-start .result in
-  let end = c .run-end .result in
-  let L = take (length line - start) (drop start line) in
-  let there : start < length line = let h = c .gap-start .ensures .within in omega arith in
-  let found = some-word line start end L (take-rest line start) (c .gap-start .ensures .same) there (c .run-end .ensures .within) (c .gap-start .ensures .stops there) (c .run-end .ensures .joins) (c .run-end .ensures .stops) in
-  let same : end - 0 ≡ end = omega arith in
-  let rest = take-rest L end in
-  cc
+    let line = c .args .line .now in
+    let start = c .gap-start .result in
+    let end = c .run-end .result in
+    let L = take (length line - start) (drop start line) in
+    let there : start < length line = let h = c .gap-start .ensures .within in omega arith in
+    let found = some-word line start end L (take-rest line start) (c .gap-start .ensures .same) there (c .run-end .ensures .within) (c .gap-start .ensures .stops there) (c .run-end .ensures .joins) (c .run-end .ensures .stops) in
+    let same : end - 0 ≡ end = omega arith in
+    let rest = take-rest L end in
+    cc

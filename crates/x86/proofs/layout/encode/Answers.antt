@@ -16,23 +16,23 @@ use Rattle.x86.proofs.layout.encode.Needs as need
 
 pub put-requires : need.put-requires
 put-requires c κs =
-  let e = c .args .encoding in
-  let d = c .args .distance in
-  let same = toZ-ofZ w32 d (c .fits .distance) in
-  let takes = subst (Takes table e) same (c .if-not-takes .ensures tt) in
-  let fits : SFits w32 (c .displacement .result) = search needs in
-  let at = toZ-ofZ w32 (c .displacement .result) fits ∙ c .displacement .ensures ∙ ap (λ z. z -ℤ pos (size e)) same in
-  record { stores = subst (InWidth e) (sym at) (in-width e d takes); room = omega arith }
+    let e = c .args .encoding in
+    let d = c .args .distance in
+    let same = toZ-ofZ w32 d (c .fits .distance) in
+    let takes = subst (Takes table e) same (c .if-not-takes .ensures tt) in
+    let fits : SFits w32 (c .displacement .result) = search needs in
+    let at = toZ-ofZ w32 (c .displacement .result) fits ∙ c .displacement .ensures ∙ ap (λ z. z -ℤ pos (size e)) same in
+    record { stores = subst (InWidth e) (sym at) (in-width e d takes); room = omega arith }
 
 pub returns : need.returns
 returns c =
-  let e = c .args .encoding in
-  let d = c .args .distance in
-  let same = toZ-ofZ w32 d (c .fits .distance) in
-  let takes = subst (Takes table e) same (c .if-not-takes .ensures tt) in
-  let fits : SFits w32 (c .displacement .result) = search needs in
-  let at = toZ-ofZ w32 (c .displacement .result) fits ∙ c .displacement .ensures ∙ ap (λ z. z -ℤ pos (size e)) same in
-  record {
-    refuses = inr ((λ n. n takes), inr ((λ short. omega arith), refl));
-    after = c .put .ensures ∙ ap (λ z. storing e z ++ drop (size e) (c .args .out .now)) at;
-  }
+    let e = c .args .encoding in
+    let d = c .args .distance in
+    let same = toZ-ofZ w32 d (c .fits .distance) in
+    let takes = subst (Takes table e) same (c .if-not-takes .ensures tt) in
+    let fits : SFits w32 (c .displacement .result) = search needs in
+    let at = toZ-ofZ w32 (c .displacement .result) fits ∙ c .displacement .ensures ∙ ap (λ z. z -ℤ pos (size e)) same in
+    record {
+      refuses = inr ((λ n. n takes), inr ((λ short. omega arith), refl));
+      after = c .put .ensures ∙ ap (λ z. storing e z ++ drop (size e) (c .args .out .now)) at;
+    }
