@@ -34,7 +34,7 @@ front-after n (suc i) (c ∷ cs) = front-after (n * 10 + digitValue c) i cs
 pub front-le : (i : ℕ) (ds : List ℕ) → value 10 (take i ds) ≤ value 10 ds
 front-le i ds = front-after 0 i ds
 
-pub checked-like : {X : Type 0} {P Q : Type 0} {v w : X} (r : Option X) → (P → Q) → (Q → P) → v ≡ w → Checked r P v → Checked r Q w
+checked-like : {X : Type 0} {P Q : Type 0} {v w : X} (r : Option X) → (P → Q) → (Q → P) → v ≡ w → Checked r P v → Checked r Q w
 checked-like None to from same h = λ q. h (from q)
 checked-like (Some x) to from same h = (to (h .0), h .1 ∙ same)
 

@@ -1,10 +1,8 @@
 -- Hexadecimal words, one byte at a time.
 use mathlib.Core.Path.{_≡_, refl, sym, ap, _∙_}
-use mathlib.Core.Bool.{cond, _&&_}
 use mathlib.Core.List.{List, [], _∷_, _++_}
 use Prim.Native.Nat.{ℕ, _+_, _*_, _≤_, _<_, _/_, _%_}
 use native.Mathlib.Omega.{arith}
-use lib.Dec.{ltb}
 use lib.ListN.{length, getD, drop, take}
 use Rattle.std.proofs.shelf.Lists.{append-assoc, joined-more, take-more}
 use Rattle.std.proofs.shelf.Tests.{and-from, cond-true, lt-ltb}

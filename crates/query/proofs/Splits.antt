@@ -1,6 +1,6 @@
 -- Where the first word of a line ends.
-use mathlib.Core.Path.{_≡_, refl, sym, ap, _∙_, subst}
-use mathlib.Core.Bool.{true, false, cond}
+use mathlib.Core.Path.{_≡_, sym, ap, _∙_, subst}
+use mathlib.Core.Bool.{true, false}
 use mathlib.Core.List.{List, [], _∷_}
 use mathlib.Core.Logic.{⊎-elim}
 use Prim.Native.Nat.{ℕ, zero, suc, _+_, _-_, _≤_, _<_}
@@ -13,7 +13,7 @@ use Rattle.std.specs.Options.{isSome}
 use Rattle.std.specs.declared.option.Option.{Option}
 use Rattle.std.specs.declared.option.Option.the-variants.{Some, None}
 use Rattle.query.specs.declared.words.Word.{Word}
-use Rattle.query.specs.Words.{Split, led, lengthened, separates, words}
+use Rattle.query.specs.Words.{Split, lengthened, separates, words}
 
 pub first-word : (line : List ℕ) (n : ℕ) → 0 < n → n ≤ length line → ((k : ℕ) → k < n → separates (getD line k 0) ≡ false) → (n < length line → separates (getD line n 0) ≡ true) → words line ≡ take n line ∷ words (drop n line)
 first-word [] n some within joins stops = absurd (omega arith)

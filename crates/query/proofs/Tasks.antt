@@ -1,6 +1,6 @@
 -- What words ask, by their first.
-use mathlib.Core.Path.{_≡_, sym, _∙_, subst}
-use mathlib.Core.List.{List, [], _∷_}
+use mathlib.Core.Path.{_≡_, subst}
+use mathlib.Core.List.{List, _∷_}
 use Prim.Native.Nat.{ℕ}
 use native.Mathlib.Omega.{arith}
 use lib.Chars.{codes}
@@ -8,7 +8,7 @@ use Rattle.std.specs.declared.option.Option.{Option}
 use Rattle.std.specs.declared.option.Option.the-variants.{Some, None}
 use Rattle.target.specs.declared.interface.Branch.{Branch}
 use Rattle.query.specs.declared.queries.Query.{Query}
-use Rattle.query.specs.Queries.{Asked, Asks, BranchWords, HexWord, Question, Task, question, read, write}
+use Rattle.query.specs.Queries.{Asked, Asks, BranchWords, HexWord, Question, Task, read, write}
 
 tail-is : {v w : List ℕ} {xs ys ws : List (List ℕ)} → ws ≡ v ∷ xs → ws ≡ w ∷ ys → xs ≡ ys
 tail-is p q = cc

@@ -3,19 +3,19 @@ use mathlib.Core.Path.{_≡_, refl, sym, ap, _∙_, subst}
 use mathlib.Core.List.{List, _++_}
 use mathlib.Core.HLevel.{dec→stable}
 use mathlib.Core.Logic.{_⊎_, inl, inr, ⊎-elim}
-use Prim.Native.Nat.{ℕ, _^_, _≤_, _<_}
+use Prim.Native.Nat.{ℕ, _^_, _<_}
 use native.Mathlib.Omega.{arith}
 use lib.ListN.{length, take, drop}
-use lib.IntN.{ℤ, pos, ℤ-discrete}
-use lib.Signed.{_≤ℤ_, _<ℤ_, remZ, clashℤ}
+use lib.IntN.{ℤ, ℤ-discrete}
+use lib.Signed.{clashℤ}
 use Rattle.std.proofs.shelf.Lists.{take-at}
 use Rattle.std.proofs.shelf.Signed.{by-ltZ}
 use Rattle.std.proofs.shelf.Tests.{cases-lt}
 use Rattle.std.specs.declared.option.Option.{Option}
 use Rattle.std.specs.declared.option.Option.the-variants.{Some, None}
 use Rattle.target.specs.declared.interface.Branch.{Branch}
-use Rattle.target.specs.Meaning.{Meaning, Exists, Lawful, Multiple, Writable}
-use Rattle.target.specs.Refusals.{Judged, Means, Reading, writeTable}
+use Rattle.target.specs.Meaning.{Meaning, Lawful, Writable}
+use Rattle.target.specs.Refusals.{Judged, Reading, writeTable}
 
 -- a line that gave no code was not due
 passed : {n : ℕ} {P Q : Type 0} → ((P × (_≡_ {A = Option ℕ} None (Some n))) ⊎ ((P → ⊥) × Q)) → (P → ⊥) × Q
@@ -46,12 +46,6 @@ module _ (m : Meaning) (k f : ℕ) (d : ℤ) where
   module _ (room : ℕ) (is-kind : k < 2 ^ 32) (j : Judged (writeTable m k f d room) None) where
     pub taken-writable : Writable m k f d
     taken-writable = writable-stable is-kind (passed (passed j .1) .0)
-
-  -- a writable triple with room for it is taken
-  pub judged-taken : (room : ℕ) → Writable m k f d → m .size k f ≤ room → Judged (writeTable m k f d room) None
-  judged-taken room w fits =
-      let is-form = w .is-there .is-form in
-      inr ((λ none. omega arith), inr ((λ n. n w), inr ((λ short. omega arith), refl)))
 
   -- what a call answered at a distance that is d under another name
   pub judged-at : {e : ℤ} → e ≡ d → (room : ℕ) (answer : Option ℕ) → Judged (writeTable m k f e room) answer → Judged (writeTable m k f d room) answer

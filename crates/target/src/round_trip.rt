@@ -1,5 +1,4 @@
 // Writing and reading undo each other, for every target.
-ghost use mathlib.Core.Path.{_≡_};
 ghost use Prim.Native.Nat.{_≤_};
 ghost use lib.ListN.{length, take};
 ghost use Rattle.target.specs.Refusals.{Judged, ReadBack, Reading, WrittenBack, Written, refusal, writeTable};

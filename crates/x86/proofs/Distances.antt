@@ -18,6 +18,9 @@ use Rattle.x86.specs.Encodings.{size, storing, table}
 use Rattle.x86.specs.Stores.{Decoded, InWidth}
 use Rattle.x86.proofs.Laws.{in-width, storing-apart}
 
+pub displacement-is : (e : Encoding) (d r : ℤ) → SFits w32 d → SFits w32 r → r ≡ toZ w32 (ofZ w32 d) -ℤ pos (size e) → toZ w32 (ofZ w32 r) ≡ d -ℤ pos (size e)
+displacement-is e d r fits small is = toZ-ofZ w32 r small ∙ is ∙ ap (λ z. z -ℤ pos (size e)) (toZ-ofZ w32 d fits)
+
 pub sum-is : (e : Encoding) (z : ℤ) (n : ℕ) → SFits w32 z → n ≡ size e → toZ w32 (ofZ w32 z) +ℤ toZ w32 n ≡ z +ℤ pos (size e)
 sum-is (Short op) z n fits is = omega (arith, ints)
 sum-is (Near op) z n fits is = omega (arith, ints)

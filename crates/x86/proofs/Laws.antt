@@ -1,10 +1,10 @@
 -- The table of x86 keeps the laws of a table.
-use mathlib.Core.Path.{_≡_, refl, sym, ap, _∙_, subst}
+use mathlib.Core.Path.{_≡_, refl, sym, ap, _∙_}
 use mathlib.Core.Logic.{inl}
-use Prim.Native.Nat.{ℕ, suc, _≤_, _<_, _%_}
+use Prim.Native.Nat.{ℕ, _≤_, _<_}
 use native.Mathlib.Omega.{arith}
 use lib.Dec.{lit≤}
-use lib.IntN.{ℤ, pos, negsuc, negℤ, _+ℤ_, _-ℤ_}
+use lib.IntN.{ℤ, pos, _-ℤ_}
 use lib.ListN.{length, drop}
 use lib.Signed.{_≤ℤ_}
 use mir.Syntax.{Width, w8, w32}
@@ -13,7 +13,7 @@ use mir.ValLaws.{ofZ-fits}
 use Rattle.std.proofs.shelf.Signed.{ints, toZ-ofZ}
 use Rattle.std.proofs.shelf.Ways.{tells}
 use Rattle.std.specs.declared.option.Option.the-variants.{Some}
-use Rattle.target.specs.Meaning.{Multiple, highest, lowest}
+use Rattle.target.specs.Meaning.{highest, lowest}
 use Rattle.target.specs.Table.{Takes, encoding}
 use Rattle.target.proofs.Tables.{TableLaws}
 use Rattle.x86.specs.declared.encodings.Encoding.{Encoding}
@@ -100,10 +100,6 @@ bytes-apart : (e e′ : Encoding) (d d′ : ℤ) → Takes table e d → Takes t
 bytes-apart e e′ d d′ takes takes′ same =
     let parts = storing-apart e e′ _ _ (in-width e d takes) (in-width e′ d′ takes′) same in
     (parts .0, omega (arith, ints, parts .1, ap size (parts .0)))
-
-pub in-step : (d : ℤ) → Multiple 1 d
-in-step (pos n) = let none : n % 1 ≡ 0 = omega arith in ap pos none
-in-step (negsuc n) = let none : suc n % 1 ≡ 0 = omega arith in ap (λ r. negℤ (pos r)) none
 
 pub laws : TableLaws table
 laws = record {

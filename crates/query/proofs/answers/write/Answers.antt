@@ -1,3 +1,4 @@
+-- The bytes of a taken write are the front of the memory that it wrote.
 use borrow.Author.Needs.{needs}
 use mathlib.Core.Path.{_∙_}
 use Prim.Native.Nat.{_-_, _<_, _^_}

@@ -1,4 +1,4 @@
-use borrow.Author.Needs.{needs}
+-- Two digits more for each byte.
 use mathlib.Core.Path.{ap, _∙_}
 use mathlib.Core.List.{_++_}
 use Rattle.std.proofs.shelf.Lists.{take-all}

@@ -1,3 +1,4 @@
+-- One byte more, and two digits less to read.
 use borrow.Author.Needs.{needs}
 use Prim.Native.Nat.{_≤_}
 use lib.ListN.{length}

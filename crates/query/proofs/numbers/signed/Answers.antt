@@ -1,3 +1,4 @@
+-- After a minus, the number of the digits that follow is negated.
 use borrow.Author.Needs.{needs}
 use mathlib.Core.Path.{_≡_}
 use lib.ListN.{getD}

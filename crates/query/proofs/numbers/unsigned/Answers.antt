@@ -1,8 +1,8 @@
+-- The number so far is what the digits so far write; a number that does not fit stays so with more digits.
 use borrow.Author.Needs.{needs}
-use mathlib.Core.Path.{_≡_, ap, sym, subst, _∙_}
-use Prim.Native.Nat.{_<_, _*_, _+_}
+use mathlib.Core.Path.{ap, subst, _∙_}
+use Prim.Native.Nat.{_+_}
 use native.Mathlib.Omega.{arith}
-use lib.ListN.{getD, length, take}
 use Rattle.std.specs.Reads.{Digits, value}
 use Rattle.std.specs.Text.{digitValue}
 use Rattle.std.proofs.shelf.Lists.{take-all}

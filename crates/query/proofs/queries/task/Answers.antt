@@ -1,5 +1,6 @@
+-- The first word says what to do, and the words after it with what.
 use borrow.Author.Needs.{needs}
-use mathlib.Core.Path.{_≡_, ap, subst, _∙_}
+use mathlib.Core.Path.{ap, _∙_}
 use mathlib.Core.List.{_∷_}
 use lib.Chars.{codes}
 use Rattle.std.proofs.shelf.Equals.{text-from-reads}

@@ -1,5 +1,6 @@
+-- After the target's name, the words are a task.
 use borrow.Author.Needs.{needs}
-use mathlib.Core.Path.{_≡_, ap, _∙_}
+use mathlib.Core.Path.{ap, _∙_}
 use mathlib.Core.List.{_∷_}
 use lib.Chars.{codes}
 use Rattle.std.proofs.shelf.Equals.{text-from-reads}

@@ -1,4 +1,5 @@
-use mathlib.Core.Path.{_≡_, sym, ap, _∙_}
+-- The text that was appended is that of the answer.
+use mathlib.Core.Path.{sym, ap, _∙_}
 use Rattle.query.specs.Answers.{text}
 use Rattle.query.proofs.Pushes.{extended}
 use Rattle.query.proofs.texts.push_answer.Needs as need

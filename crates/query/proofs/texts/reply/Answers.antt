@@ -1,3 +1,4 @@
+-- A line with a word is followed by its answer.
 use borrow.Author.Needs.{needs}
 use mathlib.Core.Logic.{inr}
 use Rattle.query.proofs.Pushes.{appended}

@@ -1,5 +1,5 @@
+-- A byte that separates is in no word.
 use mathlib.Core.Path.{_∙_, sym}
-use borrow.Author.Needs.{needs}
 use native.Mathlib.Omega.{arith}
 use Rattle.query.proofs.Splits.{skip-one}
 use Rattle.query.proofs.words.gap.Needs as need

@@ -1,7 +1,6 @@
+-- What was read is writable, and its bytes are those that were read.
 use borrow.Author.Needs.{needs}
-use mathlib.Core.Path.{_≡_, sym, ap, _∙_}
-use mathlib.Core.List.{_++_}
-use lib.ListN.{length, drop}
+use mathlib.Core.Path.{_∙_}
 use mir.Syntax.{w32}
 use mir.Val.{SFits}
 use Rattle.std.proofs.shelf.Signed.{toZ-ofZ}

@@ -1,4 +1,4 @@
-use borrow.Author.Needs.{needs}
+-- A taken write was writable, so reading its bytes gives the same triple.
 use mathlib.Core.Path.{refl}
 use lib.ListN.{length}
 use native.Mathlib.Omega.{arith}

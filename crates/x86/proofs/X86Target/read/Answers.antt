@@ -1,3 +1,4 @@
+-- Bytes that spell no encoding are no branch.
 use Rattle.target.proofs.Tables.{unspelled-none}
 use Rattle.x86.specs.Encodings.{table}
 use Rattle.x86.proofs.X86Target.read.Needs as need

@@ -1,3 +1,4 @@
+-- x86 is lawful since its table keeps the laws of a table.
 use Rattle.target.proofs.Tables.{tabled-lawful}
 use Rattle.x86.specs.Encodings.{table}
 use Rattle.x86.proofs.Laws.{laws}

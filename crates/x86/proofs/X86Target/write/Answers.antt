@@ -1,3 +1,4 @@
+-- Writing a kind and a form is writing their encoding.
 use mathlib.Core.Path.{sym}
 use native.Mathlib.Omega.{arith}
 use lib.ListN.{length}

@@ -1,3 +1,4 @@
+-- The distance that bytes spell is the displacement that they store, plus the size.
 use borrow.Author.Needs.{needs}
 use mathlib.Core.Path.{sym, subst}
 use mir.Syntax.{w32}

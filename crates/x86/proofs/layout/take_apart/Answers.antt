@@ -1,3 +1,4 @@
+-- Bytes are those of the displacement that was read from them.
 use borrow.Author.Needs.{needs}
 use mathlib.Core.Path.{_≡_, sym, ap, _∙_, subst}
 use mathlib.Core.List.{List, [], _∷_}
