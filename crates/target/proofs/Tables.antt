@@ -1,23 +1,22 @@
 -- A table that keeps its laws means a lawful target, and its writing and reading are those of its encodings.
 use mathlib.Core.Path.{_≡_, refl, sym, ap, _∙_, subst}
-use mathlib.Core.List.{List, [], _∷_, _++_}
+use mathlib.Core.List.{List, [], _∷_}
 use mathlib.Core.Logic.{_⊎_, inl, inr, ⊎-elim}
 use Prim.Native.Nat.{ℕ, zero, suc, _^_, _%_, _≤_, _<_}
 use native.Mathlib.Omega.{arith}
 use lib.IntN.{ℤ, pos}
-use lib.ListN.{length, drop}
+use lib.ListN.{length}
 use lib.Signed.{_≤ℤ_}
 use Rattle.std.proofs.shelf.Maps.{nth-past}
 use Rattle.std.proofs.shelf.Tests.{cases-lt}
 use Rattle.std.specs.declared.option.Option.{Option}
 use Rattle.std.specs.declared.option.Option.the-variants.{Some, None}
 use Rattle.std.specs.declared.result.Result.{Result}
-use Rattle.std.specs.declared.result.Result.the-variants.{Ok, Err}
 use Rattle.std.specs.shelf.Maps.{nth}
 use Rattle.target.specs.declared.interface.Branch.{Branch}
 use Rattle.target.specs.declared.interface.WriteFault.{WriteFault}
 use Rattle.target.specs.Meaning.{Exists, Lawful, Writable, highest, lowest}
-use Rattle.target.specs.Refusals.{Judged, Means, Written, writeTable}
+use Rattle.target.specs.Refusals.{Judged, Means, Put, Written, writeTable}
 use Rattle.target.specs.Table.{Encoded, Spells, Table, Takes, Unspelled, encodeTable, encoding, ofForm, tabled}
 
 -- what is asked of a table's encodings
@@ -84,8 +83,7 @@ module _ {E : Type 0} (t : Table E) where
         inr ((λ none. let within = nth-within (t .encodings k) f e is in omega arith), inr ((λ n. h .0 (λ takes. n (writable-by is-kind takes))), subst (λ n. ((room < n) × (answer ≡ Some 13)) ⊎ (((room < n) → ⊥) × (answer ≡ None))) (sym size-by) due))
 
     written-here : {X : Type 0} (before after : List ℕ) (r : Result X WriteFault) → Encoded t e d before r after → Written (tabled t) k f d before r after
-    written-here before after (Ok x) h = subst (λ o. after ≡ ofForm [] (λ x. t .bytes x d) o ++ drop (ofForm 0 (t .size) o) before) (sym is) h
-    written-here before after (Err fault) h = h
+    written-here before after r h = subst (λ o. Put (ofForm [] (λ x. t .bytes x d) o) (ofForm 0 (t .size) o) before r after) (sym is) h
 
     -- writing the kind and form is writing their encoding, with the distance under any name
     module _ {d′ : ℤ} (same : d′ ≡ d) where

@@ -41,10 +41,14 @@ writeTable m kind form distance room =
     ∷ record { code = 14; when = Writable m kind form distance → ⊥ }
     ∷ record { code = 13; when = room < m .size kind form } ∷ []
 
--- memory after writing: the bytes at its front and the rest as it was, or, refused, all as it was
+-- memory after a call that puts bytes, so many, at its front and leaves the rest, or that refuses and leaves all
+abbrev pub Put : {T : Type 0} → List ℕ → ℕ → List ℕ → Result T WriteFault → List ℕ → Type 0
+Put bytes size before (Ok x) after = after ≡ bytes ++ drop size before
+Put bytes size before (Err fault) after = after ≡ before
+
+-- memory after writing a branch
 abbrev pub Written : {T : Type 0} → Meaning → ℕ → ℕ → ℤ → List ℕ → Result T WriteFault → List ℕ → Type 0
-Written m kind form distance before (Ok x) after = after ≡ m .bytes kind form distance ++ drop (m .size kind form) before
-Written m kind form distance before (Err fault) after = after ≡ before
+Written m kind form distance before r after = Put (m .bytes kind form distance) (m .size kind form) before r after
 
 -- these bytes are those of this branch
 pub record Means (m : Meaning) (bytes : List ℕ) (branch : Branch) : Type 0 where

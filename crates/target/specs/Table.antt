@@ -1,18 +1,17 @@
 -- A target given by a table: the encodings of each kind, smallest first.
 use mathlib.Core.Path.{_≡_}
-use mathlib.Core.List.{List, [], _∷_, _++_}
+use mathlib.Core.List.{List, [], _∷_}
 use Prim.Native.Nat.{ℕ, _<_}
 use lib.IntN.{ℤ, pos}
-use lib.ListN.{length, drop}
+use lib.ListN.{length}
 use lib.Signed.{_≤ℤ_}
 use Rattle.std.specs.declared.option.Option.{Option}
 use Rattle.std.specs.declared.option.Option.the-variants.{Some, None}
 use Rattle.std.specs.declared.result.Result.{Result}
-use Rattle.std.specs.declared.result.Result.the-variants.{Ok, Err}
 use Rattle.std.specs.shelf.Maps.{nth}
 use Rattle.target.specs.declared.interface.WriteFault.{WriteFault}
 use Rattle.target.specs.Meaning.{Meaning, Multiple}
-use Rattle.target.specs.Refusals.{Refusal}
+use Rattle.target.specs.Refusals.{Put, Refusal}
 
 -- E is the instruction set's own notion of an encoding
 pub record Table (E : Type 0) : Type 0 where
@@ -55,10 +54,9 @@ encodeTable t e distance room =
     record { code = 14; when = Takes t e distance → ⊥ }
     ∷ record { code = 13; when = room < t .size e } ∷ []
 
--- memory after writing an encoding, or after a refusal
+-- memory after writing an encoding
 abbrev pub Encoded : {E X : Type 0} → Table E → E → ℤ → List ℕ → Result X WriteFault → List ℕ → Type 0
-Encoded t e distance before (Ok x) after = after ≡ t .bytes e distance ++ drop (t .size e) before
-Encoded t e distance before (Err fault) after = after ≡ before
+Encoded t e distance before r after = Put (t .bytes e distance) (t .size e) before r after
 
 -- these bytes are those of this encoding with this distance
 pub record Spells {E : Type 0} (t : Table E) (bytes : List ℕ) (e : E) (distance : ℤ) : Type 0 where
