@@ -12,7 +12,7 @@ use Rattle.target.specs.Refusals.{Judged, Reading, code, writeTable}
 use Rattle.x86.specs.Encodings.{x86}
 use Rattle.query.specs.declared.answers.Answer.{Answer}
 use Rattle.query.specs.declared.answers.Answer.the-variants.{Bytes, Refused, Found, NoBranch, NotUnderstood}
-use Rattle.query.specs.Queries.{Asks, Question, read, write}
+use Rattle.query.specs.Queries.{Asks, LineReads, Question, read, write}
 use Rattle.query.specs.Words.{hex, words}
 
 -- the right answer to a question, for a target; writing has room for 16 bytes, the most that any form takes
@@ -28,6 +28,11 @@ Answered m (read bs) (Found branch) = Reading m bs (Some branch)
 Answered m (read bs) NoBranch = Reading m bs None
 Answered m (read bs) NotUnderstood = ⊥
 
+-- a question whose answer takes memory on the heap: only the bytes of a branch that can be written do
+abbrev pub TakesMemory : Meaning → Question → Type 0
+TakesMemory m (write b) = Writable m (b .kind) (b .form) (b .distance)
+TakesMemory m (read bs) = ⊥
+
 abbrev pub text : Answer → List ℕ
 text (Bytes bytes) = hex (vec-items bytes)
 text (Refused fault) = codes "refused " ++ decimal (code fault)
@@ -41,8 +46,14 @@ Right line a =
     ((q : Question) × Asks (words line) q × Answered x86 q a)
     ⊎ (((q : Question) → Asks (words line) q → ⊥) × (a ≡ NotUnderstood))
 
--- the reply to a line: nothing to a blank one, else the line, its answer and a line end
+-- a line that takes memory on the heap before its answer is known
+abbrev pub LineTakesMemory : List ℕ → Type 0
+LineTakesMemory line = LineReads (words line) ⊎ ((q : Question) × Asks (words line) q × TakesMemory x86 q)
+
+-- a line with its right answer and a line end
+abbrev pub WithAnswer : List ℕ → List ℕ → Type 0
+WithAnswer line reply = (a : Answer) × Right line a × (reply ≡ line ++ (codes " = " ++ (text a ++ (10 ∷ []))))
+
+-- the reply to a line: nothing to a blank one, else the line with its answer
 abbrev pub Replied : List ℕ → List ℕ → Type 0
-Replied line reply =
-    ((words line ≡ []) × (reply ≡ []))
-    ⊎ ((words line ≡ [] → ⊥) × ((a : Answer) × Right line a × (reply ≡ line ++ (codes " = " ++ (text a ++ (10 ∷ []))))))
+Replied line reply = ((words line ≡ []) × (reply ≡ [])) ⊎ ((words line ≡ [] → ⊥) × WithAnswer line reply)

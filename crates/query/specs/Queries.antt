@@ -65,3 +65,10 @@ Asks ws q = (rest : List (List ℕ)) × (ws ≡ codes "x86" ∷ rest) × Task re
 abbrev pub Asked : (List (List ℕ) → Question → Type 0) → List (List ℕ) → Option Query → Type 0
 Asked Puts ws None = (q : Question) → Puts ws q → ⊥
 Asked Puts ws (Some query) = Puts ws (question query)
+
+-- words that are to read bytes, which take memory on the heap: as a task, and as a line
+abbrev pub TaskReads : List (List ℕ) → Type 0
+TaskReads ws = (rest : List (List ℕ)) × (ws ≡ codes "read" ∷ rest)
+
+abbrev pub LineReads : List (List ℕ) → Type 0
+LineReads ws = (rest : List (List ℕ)) × (ws ≡ codes "x86" ∷ rest) × TaskReads rest

@@ -3,9 +3,10 @@ ghost use mathlib.Core.List.{List};
 ghost use Prim.Native.Nat.{ℕ};
 ghost use Rattle.std.specs.Options.{Cases};
 ghost use Rattle.std.specs.Of.Vec.{vec-items};
+ghost use Rattle.std.specs.Results.{Cases as ByOk};
 ghost use Rattle.std.specs.Vec.{made};
 ghost use Rattle.target.specs.declared.interface.Branch.{Branch as Triple};
-ghost use Rattle.query.specs.Queries.{Asked, Asks, BranchWords, HexWord, Task};
+ghost use Rattle.query.specs.Queries.{Asked, Asks, BranchWords, HexWord, LineReads, Task, TaskReads};
 ghost use Rattle.query.specs.Words.{words};
 use crate::hex::read_hex;
 use crate::numbers::signed;
@@ -53,7 +54,7 @@ fn hex_word(heap: Global, line: &[u8]) -> Result<Option<Vec<u8>>, AllocError>
 
 // What to do, after the target's name.
 fn task(heap: Global, line: &[u8]) -> Result<Option<Query>, AllocError>
-    ensures { λ r. ⌜ made r (λ query. Asked Task (words (now (line .entry))) query) ⌝ }
+    ensures { λ r. ⌜ ByOk r (λ query. Asked Task (words (now (line .entry))) query) (λ _. TaskReads (words (now (line .entry)))) ⌝ }
 {
     let Some(verb) = next_word(line) else {
         return Ok(None);
@@ -73,7 +74,7 @@ fn task(heap: Global, line: &[u8]) -> Result<Option<Query>, AllocError>
 
 // What a line asks, or that it asks nothing.
 pub fn understand(heap: Global, line: &[u8]) -> Result<Option<Query>, AllocError>
-    ensures { λ r. ⌜ made r (λ query. Asked Asks (words (now (line .entry))) query) ⌝ }
+    ensures { λ r. ⌜ ByOk r (λ query. Asked Asks (words (now (line .entry))) query) (λ _. LineReads (words (now (line .entry)))) ⌝ }
 {
     let Some(name) = next_word(line) else {
         return Ok(None);

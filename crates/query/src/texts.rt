@@ -1,9 +1,11 @@
 // An answer's text, and the reply to a line.
 ghost use mathlib.Core.Path.{_≡_};
-ghost use mathlib.Core.List.{_++_};
+ghost use mathlib.Core.List.{[], _++_};
 ghost use Rattle.std.specs.Of.Vec.{vec-items};
+ghost use Rattle.std.specs.Results.{Cases};
 ghost use Rattle.std.specs.Vec.{made};
-ghost use Rattle.query.specs.Answers.{Replied, Right, text as textOf};
+ghost use Rattle.query.specs.Answers.{LineTakesMemory, Replied, Right, WithAnswer, text as textOf};
+ghost use Rattle.query.specs.Words.{words};
 use crate::answers::Answer;
 use crate::answers::answer_query;
 use crate::hex::push_hex;
@@ -39,7 +41,7 @@ fn push_answer(heap: Global, out: &mut Vec<u8>, answer: &Answer) -> Result<(), A
 
 // The answer to a line.
 fn answer_line(heap: Global, line: &[u8]) -> Result<Answer, AllocError>
-    ensures { λ r. ⌜ made r (λ a. Right (now (line .entry)) a) ⌝ }
+    ensures { λ r. ⌜ Cases r (λ a. Right (now (line .entry)) a) (λ _. LineTakesMemory (now (line .entry))) ⌝ }
 {
     match understand(heap, line)? {
         Some(query) => answer_query(heap, &X86, query),
@@ -47,18 +49,25 @@ fn answer_line(heap: Global, line: &[u8]) -> Result<Answer, AllocError>
     }
 }
 
-// What is printed for a line: nothing where it is blank, else the line, ` = `, its answer and a line end.
-pub fn reply(heap: Global, line: &[u8]) -> Result<Vec<u8>, AllocError>
-    ensures { λ r. ⌜ made r (λ out. Replied (now (line .entry)) (vec-items out)) ⌝ }
+// A line, ` = `, its answer and a line end.
+fn answered(heap: Global, line: &[u8]) -> Result<Vec<u8>, AllocError>
+    ensures { λ r. ⌜ made r (λ out. WithAnswer (now (line .entry)) (vec-items out)) ⌝ }
 {
     let mut out = Vec::new(heap);
-    if next_word(line).is_none() {
-        return Ok(out);
-    }
     let answer = answer_line(heap, line)?;
     out.extend_from_slice(line)?;
     out.extend_from_slice(b" = ")?;
     push_answer(heap, &mut out, &answer)?;
     out.push(b'\n')?;
     Ok(out)
+}
+
+// What is printed for a line: nothing where it is blank, else the line with its answer.
+pub fn reply(heap: Global, line: &[u8]) -> Result<Vec<u8>, AllocError>
+    ensures { λ r. ⌜ Cases r (λ out. Replied (now (line .entry)) (vec-items out)) (λ _. words (now (line .entry)) ≡ [] → ⊥) ⌝ }
+{
+    match next_word(line) {
+        Some(_) => answered(heap, line),
+        None => Ok(Vec::new(heap)),
+    }
 }

@@ -4,7 +4,7 @@ use mathlib.Core.Path.{ap, _∙_}
 use mathlib.Core.List.{_∷_}
 use lib.Chars.{codes}
 use Rattle.std.proofs.shelf.Equals.{text-from-reads}
-use Rattle.std.proofs.shelf.Results.{cases-at-none, cases-at-some}
+use Rattle.std.proofs.shelf.Results.{cases-at-none, cases-at-some, cases-from-err}
 use Rattle.query.specs.Words.{words}
 use Rattle.query.proofs.Tasks.{no-branch, no-bytes}
 use Rattle.query.proofs.queries.task.Needs as need
@@ -32,3 +32,10 @@ returns-in-None-branch-words c =
     let verb = text-from-reads (c .in-Some .verb .text .now) (codes "write") (search needs) (search needs) in
     let rest = words (c .in-Some .verb .rest .now) in
     no-branch _ rest (c .in-Some .ensures tt ∙ ap (λ w. w ∷ rest) verb) (c .in-None-branch-words .ensures tt)
+
+-- only reading asks for memory
+pub returns-in-Break-bytes : need.returns-in-Break-bytes
+returns-in-Break-bytes c =
+    let verb = text-from-reads (c .in-Some .verb .text .now) (codes "read") (search needs) (search needs) in
+    let rest = words (c .in-Some .verb .rest .now) in
+    cases-from-err (c .from-residual .result) _ _ (c .from-residual .ensures .0) (λ _. (rest, c .in-Some .ensures tt ∙ ap (λ w. w ∷ rest) verb))
