@@ -6,7 +6,7 @@ use native.Mathlib.Omega.{arith}
 use lib.Dec.{lit≤}
 use lib.IntN.{ℤ, pos, _-ℤ_}
 use lib.ListN.{length, drop}
-use lib.Signed.{_≤ℤ_}
+use lib.Signed.{_≤ℤ_, leZ-yes}
 use mir.Syntax.{Width, w8, w32}
 use mir.Val.{SFits, ofZ, toZ}
 use mir.ValLaws.{ofZ-fits}
@@ -22,35 +22,19 @@ use Rattle.x86.specs.Encodings.{bytes, encodings, fourBytes, high, low, size, 
 use Rattle.x86.specs.Stores.{InWidth}
 use Rattle.x86.proofs.Bytes.{four-bytes-apart}
 
-size-least : (e : Encoding) → 1 ≤ size e
-size-least (Short op) = lit≤ tt
-size-least (Near op) = lit≤ tt
-size-least (Escaped op) = lit≤ tt
+-- sizes and reaches, as the numbers of each layout show
+record Bounded (e : Encoding) : Type 0 where
+  pub size-least : 1 ≤ size e
+  pub size-most : size e ≤ 16
+  pub low-bound : lowest ≤ℤ low e
+  pub low-reaches : low e ≤ℤ pos 0
+  pub high-reaches : pos 0 ≤ℤ high e
+  pub high-bound : high e ≤ℤ highest
 
-size-most : (e : Encoding) → size e ≤ 16
-size-most (Short op) = lit≤ tt
-size-most (Near op) = lit≤ tt
-size-most (Escaped op) = lit≤ tt
-
-low-bound : (e : Encoding) → lowest ≤ℤ low e
-low-bound (Short op) = record { le = tt }
-low-bound (Near op) = record { le = tt }
-low-bound (Escaped op) = record { le = tt }
-
-low-reaches : (e : Encoding) → low e ≤ℤ pos 0
-low-reaches (Short op) = record { le = tt }
-low-reaches (Near op) = record { le = tt }
-low-reaches (Escaped op) = record { le = tt }
-
-high-reaches : (e : Encoding) → pos 0 ≤ℤ high e
-high-reaches (Short op) = record { le = tt }
-high-reaches (Near op) = record { le = tt }
-high-reaches (Escaped op) = record { le = tt }
-
-high-bound : (e : Encoding) → high e ≤ℤ highest
-high-bound (Short op) = record { le = tt }
-high-bound (Near op) = record { le = tt }
-high-bound (Escaped op) = record { le = tt }
+bounded : (e : Encoding) → Bounded e
+bounded (Short op) = record { size-least = lit≤ tt; size-most = lit≤ tt; low-bound = leZ-yes tt; low-reaches = leZ-yes tt; high-reaches = leZ-yes tt; high-bound = leZ-yes tt }
+bounded (Near op) = record { size-least = lit≤ tt; size-most = lit≤ tt; low-bound = leZ-yes tt; low-reaches = leZ-yes tt; high-reaches = leZ-yes tt; high-bound = leZ-yes tt }
+bounded (Escaped op) = record { size-least = lit≤ tt; size-most = lit≤ tt; low-bound = leZ-yes tt; low-reaches = leZ-yes tt; high-reaches = leZ-yes tt; high-bound = leZ-yes tt }
 
 bytes-fill : (e : Encoding) (d : ℤ) → length (bytes e d) ≡ size e
 bytes-fill (Short op) d = refl
@@ -105,14 +89,14 @@ pub laws : TableLaws table
 laws = record {
   granule-is = inl refl;
   forms-most = forms-most;
-  size-least = size-least;
-  size-most = size-most;
+  size-least = λ e. bounded e .size-least;
+  size-most = λ e. bounded e .size-most;
   size-in-step = λ e. omega arith;
   size-grows = size-grows;
-  low-bound = low-bound;
-  low-reaches = low-reaches;
-  high-reaches = high-reaches;
-  high-bound = high-bound;
+  low-bound = λ e. bounded e .low-bound;
+  low-reaches = λ e. bounded e .low-reaches;
+  high-reaches = λ e. bounded e .high-reaches;
+  high-bound = λ e. bounded e .high-bound;
   bytes-fill = λ e d takes. bytes-fill e d;
   bytes-apart = bytes-apart;
   entries-apart = entries-apart;
