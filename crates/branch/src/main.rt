@@ -1,4 +1,6 @@
 // Reads lines from standard input, and prints for each what it asks of a branch and the answer.
+#![tactic(auto)]
+
 use query::reply;
 use std::io::{BufRead, BufReader, Write};
 

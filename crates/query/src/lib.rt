@@ -1,4 +1,6 @@
 // One question about one branch, and its answer: the library of the program `branch`.
+#![tactic(auto)]
+
 mod answers;
 mod hex;
 mod numbers;

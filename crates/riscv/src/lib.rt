@@ -1,4 +1,6 @@
 // RV32I with the C extension as a target.
+#![tactic(auto)]
+
 ghost use Rattle.std.specs.Prelude.{Decides};
 ghost use Rattle.target.specs.Refusals.{Means};
 ghost use Rattle.riscv.specs.Encodings.{riscv, table};

@@ -1,4 +1,6 @@
 // What an instruction set is to the assembler: its meaning, its laws and its calls.
+#![tactic(auto)]
+
 mod interface;
 mod round_trip;
 

@@ -1,4 +1,6 @@
 // x86 in 32-bit mode as a target.
+#![tactic(auto)]
+
 ghost use Rattle.x86.specs.Encodings.{x86, table};
 ghost use Rattle.target.proofs.Tables.{tabled_lawful};
 ghost use Rattle.x86.specs.Laws.{laws};
