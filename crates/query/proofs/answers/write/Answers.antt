@@ -11,8 +11,8 @@ returns-in-Err g c =
     let fits : SFits w32 b.distance = search rules in
     judged_at (g.row.T-Target.meaning c.args.target.now) b.kind b.form b.distance (to_z-of_z w32 b.distance fits) 16 _ c.in-Err.ensures.refuses
 
-pub returns-in-ok-from-slice : goal.returns-in-ok-from-slice
-returns-in-ok-from-slice g c =
+pub returns-in_ok-from_slice : goal.returns-in_ok-from_slice
+returns-in_ok-from_slice g c =
     let m = g.row.T-Target.meaning c.args.target.now in
     let laws = g.met.T.Target.lawful c.args.target.now in
     let b = c.args.branch in
@@ -22,15 +22,15 @@ returns-in-ok-from-slice g c =
     let wrote = c.in-Ok.ensures in
     let writable = taken_writable m b.kind b.form b.distance 16 is_kind (judged_at m b.kind b.form b.distance same 16 None wrote.refuses) in
     let after = written_at m b.kind b.form b.distance same _ _ wrote.after in
-    (writable, c.in-ok-from-slice.ensures.items ∙ front_is m b.kind b.form b.distance laws writable (c.size-size.result - 0) _ _ (omega (arith, c.size-size.ensures)) after)
+    (writable, c.in_ok-from_slice.ensures.items ∙ front_is m b.kind b.form b.distance laws writable (c.size-size.result - 0) _ _ (omega (arith, c.size-size.ensures)) after)
 
 -- memory is asked for only after a taken write
-pub returns-in-err-from-slice : goal.returns-in-err-from-slice
-returns-in-err-from-slice g c =
+pub returns-in_err-from_slice : goal.returns-in_err-from_slice
+returns-in_err-from_slice g c =
     let m = g.row.T-Target.meaning c.args.target.now in
     let b = c.args.branch in
     let fits : SFits w32 b.distance = search rules in
     let is_kind : b.kind < 2 ^ 32 = search rules in
     let same = to_z-of_z w32 b.distance fits in
     let writable = taken_writable m b.kind b.form b.distance 16 is_kind (judged_at m b.kind b.form b.distance same 16 None c.in-Ok.ensures.refuses) in
-    MatchResult-from_err c.from-residual.result _ _ c.from-residual.ensures.0 (λ _. writable)
+    MatchResult-from_err c.from_residual.result _ _ c.from_residual.ensures.0 (λ _. writable)

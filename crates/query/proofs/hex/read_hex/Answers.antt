@@ -8,4 +8,4 @@ pub loop-rest-preserved : goal.loop-rest-preserved
 loop-rest-preserved c =
     let rest = c.loop-rest.rest.now in
     let long : 2 ≤ length rest = search rules in
-    unhex_pushed _ (vec_items c.loop-rest.bytes) (vec_items c.push.new.self) rest _ c.in-Some.b c.loop-rest.invariant long (take_rest rest 2) c.in-Some.ensures c.in-ok-push.ensures.items
+    unhex_pushed _ (vec_items c.loop-rest.bytes) (vec_items c.push.new.self) rest _ c.in-Some.b c.loop-rest.invariant long (take_rest rest 2) c.in-Some.ensures c.in_ok-push.ensures.items

@@ -4,15 +4,15 @@ use Rattle.std.proofs.lemmas.List.{take_rest}
 use Rattle.query.proofs.Digits.{negated_is, no_digits}
 use Rattle.query.proofs.numbers.signed.Goals as goal
 
-pub returns-in-err-unsigned : goal.returns-in-err-unsigned
-returns-in-err-unsigned c =
+pub returns-in_err-unsigned : goal.returns-in_err-unsigned
+returns-in_err-unsigned c =
     let word = c.args.word.now in
     let minus : get_or word 0 0 ≡ 45 = search rules in
-    rw c.from-residual.ensures (no_digits word _ minus (take_rest word 1) c.in-err-unsigned.ensures)
+    rw c.from_residual.ensures (no_digits word _ minus (take_rest word 1) c.in_err-unsigned.ensures)
 
-pub returns-in-ok-unsigned : goal.returns-in-ok-unsigned
-returns-in-ok-unsigned c =
+pub returns-in_ok-unsigned : goal.returns-in_ok-unsigned
+returns-in_ok-unsigned c =
     let word = c.args.word.now in
     let minus : get_or word 0 0 ≡ 45 = search rules in
-    let read = c.in-ok-unsigned.ensures in
-    negated_is word _ minus (take_rest word 1) c.negated.result c.in-ok-unsigned.field-0 read.0.0 read.1 c.negated.ensures
+    let read = c.in_ok-unsigned.ensures in
+    negated_is word _ minus (take_rest word 1) c.negated.result c.in_ok-unsigned.field-0 read.0.0 read.1 c.negated.ensures

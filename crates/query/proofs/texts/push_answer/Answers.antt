@@ -6,4 +6,4 @@ use Rattle.query.proofs.texts.push_answer.Goals as goal
 
 pub returns-in-NotUnderstood : goal.returns-in-NotUnderstood
 returns-in-NotUnderstood c =
-    extended c.extend-from-slice-in-NotUnderstood.result _ _ _ _ c.extend-from-slice-in-NotUnderstood.ensures.items (c.as-bytes-in-NotUnderstood.ensures.value ∙ sym (ap text c.in-NotUnderstood.is))
+    extended c.extend_from_slice-in-NotUnderstood.result _ _ _ _ c.extend_from_slice-in-NotUnderstood.ensures.items (c.as_bytes-in-NotUnderstood.ensures.value ∙ sym (ap text c.in-NotUnderstood.is))

@@ -24,7 +24,7 @@ returns c = λ d low high is is'.
     let fits : SFits w32 d = omega (arith, ints, low, high) in
     let u : to_z w32 (of_z w32 c.args.upper) ≡ upper d = to_z-of_z w32 c.args.upper c.ranges.upper ∙ sym is in
     let l : to_z w32 (of_z w32 c.args.lower) ≡ lower d = to_z-of_z w32 c.args.lower c.ranges.lower ∙ sym is' in
-    let times : c.saturating-mul.result ≡ upper d *ℤ pos 4096 = c.saturating-mul.ensures ∙ ap (λ z. saturate_to_bits 31 (z *ℤ pos 4096)) u ∙ unsaturated (upper d *ℤ pos 4096) times_fits in
-    let m : to_z w32 (of_z w32 c.saturating-mul.result) ≡ upper d *ℤ pos 4096 = ap (λ z. to_z w32 (of_z w32 z)) times ∙ to_z-of_z w32 (upper d *ℤ pos 4096) times_fits in
-    let sum : c.saturating-add.result ≡ d = c.saturating-add.ensures ∙ ap (saturate_to_bits 31) ((λ k. m k +ℤ l k) ∙ parts d) ∙ unsaturated d fits in
+    let times : c.saturating_mul.result ≡ upper d *ℤ pos 4096 = c.saturating_mul.ensures ∙ ap (λ z. saturate_to_bits 31 (z *ℤ pos 4096)) u ∙ unsaturated (upper d *ℤ pos 4096) times_fits in
+    let m : to_z w32 (of_z w32 c.saturating_mul.result) ≡ upper d *ℤ pos 4096 = ap (λ z. to_z w32 (of_z w32 z)) times ∙ to_z-of_z w32 (upper d *ℤ pos 4096) times_fits in
+    let sum : c.saturating_add.result ≡ d = c.saturating_add.ensures ∙ ap (saturate_to_bits 31) ((λ k. m k +ℤ l k) ∙ parts d) ∙ unsaturated d fits in
     ap (λ z. to_z w32 (of_z w32 z)) sum ∙ to_z-of_z w32 d fits

@@ -3,5 +3,5 @@ use Rattle.target.proofs.Tables.{unspelled_none}
 use Rattle.x86.specs.Encodings.{table}
 use Rattle.x86.proofs.X86Target.read.Goals as goal
 
-pub returns-in-err-instruction : goal.returns-in-err-instruction
-returns-in-err-instruction c = rw c.from-residual.ensures (λ b means. unspelled_none table b means c.in-err-instruction.ensures)
+pub returns-in_err-instruction : goal.returns-in_err-instruction
+returns-in_err-instruction c = rw c.from_residual.ensures (λ b means. unspelled_none table b means c.in_err-instruction.ensures)

@@ -8,9 +8,9 @@ use Rattle.x86.proofs.layout.take_apart.Goals as goal
 pub returns-in-len2 : goal.returns-in-len2
 returns-in-len2 c =
     let bytes = c.args.bytes.now in
-    let fits : SFits w8 c.cast-signed.result = search rules in
-    let is : to_z w32 (of_z w32 c.from.result) ≡ c.cast-signed.result = to_z-of_z w32 c.from.result (search rules) ∙ c.from.ensures ∙ to_z-of_z w8 c.cast-signed.result fits in
-    let back : of_z w8 c.cast-signed.result ≡ get_or bytes 1 0 = ap (of_z w8) c.cast-signed.ensures ∙ of_z-to_z w8 (get_or bytes 1 0) (omega (arith, c.type-inv.bytes 1)) in
+    let fits : SFits w8 c.cast_signed.result = search rules in
+    let is : to_z w32 (of_z w32 c.from.result) ≡ c.cast_signed.result = to_z-of_z w32 c.from.result (search rules) ∙ c.from.ensures ∙ to_z-of_z w8 c.cast_signed.result fits in
+    let back : of_z w8 c.cast_signed.result ≡ get_or bytes 1 0 = ap (of_z w8) c.cast_signed.ensures ∙ of_z-to_z w8 (get_or bytes 1 0) (omega (arith, c.type_inv.bytes 1)) in
     (ap (λ z. get_or bytes 0 0 ∷ of_z w8 z ∷ []) is ∙ ap (λ n. get_or bytes 0 0 ∷ n ∷ []) back ∙ listed 2 bytes (search rules), subst (λ z. SFits w8 z) (sym is) fits)
 
 -- four bytes of the list, read as a number, store as themselves
@@ -25,15 +25,15 @@ module _ (bytes : List ℕ) (typed : (i : ℕ) → Fits w8 (get_or bytes i 0)) (
 pub returns-in-len5 : goal.returns-in-len5
 returns-in-len5 c =
     let bytes = c.args.bytes.now in
-    let fits : SFits w32 c.from-le-bytes.result = search rules in
-    (ap (λ bs. get_or bytes 0 0 ∷ bs) (four_again bytes c.type-inv.bytes 1 c.from-le-bytes.result fits c.from-le-bytes.ensures) ∙ listed 5 bytes (search rules), search rules)
+    let fits : SFits w32 c.from_le_bytes.result = search rules in
+    (ap (λ bs. get_or bytes 0 0 ∷ bs) (four_again bytes c.type_inv.bytes 1 c.from_le_bytes.result fits c.from_le_bytes.ensures) ∙ listed 5 bytes (search rules), search rules)
 
 pub returns-in-15 : goal.returns-in-15
 returns-in-15 c =
     let bytes = c.args.bytes.now in
-    let fits : SFits w32 c.from-le-bytes-in-15.result = search rules in
+    let fits : SFits w32 c.from_le_bytes-in-15.result = search rules in
     let first : 15 ≡ get_or bytes 0 0 = omega arith in (
-      ap (λ bs. 15 ∷ get_or bytes 1 0 ∷ bs) (four_again bytes c.type-inv.bytes 2 c.from-le-bytes-in-15.result fits c.from-le-bytes-in-15.ensures)
+      ap (λ bs. 15 ∷ get_or bytes 1 0 ∷ bs) (four_again bytes c.type_inv.bytes 2 c.from_le_bytes-in-15.result fits c.from_le_bytes-in-15.ensures)
           ∙ ap (λ b. b ∷ get_or bytes 1 0 ∷ get_or bytes 2 0 ∷ get_or bytes 3 0 ∷ get_or bytes 4 0 ∷ get_or bytes 5 0 ∷ []) first ∙ listed 6 bytes (search rules),
       search rules,
     )

@@ -17,4 +17,4 @@ returns-in-Immediate c =
     let fits = subst InWord c.in-Immediate.is c.requires in
     let small : SFits w32 (shr_z i (2 ^ low)) = sfits_le (mag_shr i (2 ^ low)) c.ranges.immediate in
     let same : to_z w32 (of_z w32 (shr_z (to_z w32 (of_z w32 i)) (2 ^ low))) ≡ shr_z i (2 ^ low) = ap (λ z. to_z w32 (of_z w32 (shr_z z (2 ^ low)))) (to_z-of_z w32 i c.ranges.immediate) ∙ to_z-of_z w32 (shr_z i (2 ^ low)) small in
-    ap (λ x. c.cast-unsigned.result % x) (one_shl count 32 (omega arith)) ∙ ap (λ n. n % 2 ^ count) (c.cast-unsigned.ensures ∙ ap (of_z w32) same) ∙ shifted i low count c.ranges.immediate (omega arith) ∙ sym (ap (held i) c.in-Immediate.is)
+    ap (λ x. c.cast_unsigned.result % x) (one_shl count 32 (omega arith)) ∙ ap (λ n. n % 2 ^ count) (c.cast_unsigned.ensures ∙ ap (of_z w32) same) ∙ shifted i low count c.ranges.immediate (omega arith) ∙ sym (ap (held i) c.in-Immediate.is)
