@@ -7,7 +7,7 @@ use Rattle.riscv.specs.declared.encodings.Encoding.TheVariants.{One, Far, Long}
 use Rattle.riscv.specs.declared.words.instructions.Instruction.{Instruction}
 use Rattle.riscv.specs.declared.words.instructions.Instruction.TheVariants.{Jal, Branch, Auipc, Jalr}
 use Rattle.riscv.specs.declared.finding.Spelled.{Spelled}
-use Rattle.riscv.specs.Encodings.{bytes, lower, upper}
+use Rattle.riscv.specs.Encodings.{lower, upper}
 use Rattle.riscv.specs.Finding.{FindsPair, FindsSpelling, alone, step}
 use Rattle.riscv.specs.Instructions.{inverted, size, stored, word}
 use Rattle.riscv.specs.Reading.{half, immediate, whole}

@@ -10,8 +10,8 @@ next : (c : After-value) → Step (to_z w32 (of_z w32 c.args.immediate)) (number
 next c =
     stepped _ _ _ _ _ (word_fits c.args.fields.now _ c.requires) _ c.loop-rest.rest.now (search rules) c.loop-rest.invariant.0 c.loop-rest.invariant.1 c.width.ensures c.value.ensures
 
-pub overflow-add-word : goal.overflow-add-word
-overflow-add-word c = (next c).0
+pub overflow_add-word : goal.overflow_add-word
+overflow_add-word c = (next c).0
 
 pub loop-rest-preserved : goal.loop-rest-preserved
 loop-rest-preserved c = (next c).1
