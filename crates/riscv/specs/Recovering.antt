@@ -5,7 +5,7 @@ use Rattle.std.specs.Int.{w32}
 use Rattle.std.proofs.lemmas.Nat.{mod-mul-add}
 use Rattle.std.proofs.lemmas.Int.{ints}
 use Rattle.std.proofs.lemmas.Bool.{cond_above, cond_below}
-use Rattle.std.specs.List.{AllByRecursion as All}
+use Rattle.std.specs.List.{AllByRecursion}
 use Rattle.target.specs.Meaning.{Multiple}
 use Rattle.riscv.specs.declared.words.Field.{Field}
 use Rattle.riscv.specs.declared.words.Field.TheVariants.{Bits}
@@ -41,7 +41,7 @@ tiled (Auipc rd) m n h = (20, refl, omega (arith, h))
 tiled (Jalr rd base) m n h = (12, refl, omega (arith, h))
 
 -- every field of an instruction has a place in a word
-laid : (x : Instruction) → All InWord (layout x)
+laid : (x : Instruction) → AllByRecursion InWord (layout x)
 laid CJ = search rules
 laid CJal = search rules
 laid (CBeqz first) = search rules

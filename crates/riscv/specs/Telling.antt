@@ -4,7 +4,7 @@ use Rattle.std.proofs.Common.{sym, ap, ◌∙◌, subst, append_assoc, mod-eq_of
 use Rattle.std.proofs.Math.Nat.{add-mul-div_right, add-mul-mod_self_right}
 use Rattle.std.specs.Int.{w32}
 use Rattle.std.proofs.lemmas.Nat.{mod-pow-add, pow-add, pow_pos, shr_high}
-use Rattle.std.specs.List.{AllByRecursion as All}
+use Rattle.std.specs.List.{AllByRecursion}
 use Rattle.riscv.specs.declared.words.Field.{Field}
 use Rattle.riscv.specs.declared.words.Field.TheVariants.{Bits, Immediate}
 use Rattle.riscv.specs.Reading.{gathered}
@@ -48,7 +48,7 @@ slice n high low h = let sum : 1 + high ≡ (1 + high - low) + low = omega arith
 abbrev pub Back : ℤ → List Field → List Field → Type 0
 Back i all fs = gathered fs (number all i) + lows (λ k. of_z w32 i % 2 ^ k) fs ≡ highs (λ k. of_z w32 i % 2 ^ k) fs
 
-pub gathered_back : (i : ℤ) (ps fs : List Field) → All InWord fs → Back i (ps ++ fs) fs
+pub gathered_back : (i : ℤ) (ps fs : List Field) → AllByRecursion InWord fs → Back i (ps ++ fs) fs
 gathered_back i ps [] fits = refl
 gathered_back i ps (f ∷ fs) fits = one f fits.0 (subst (λ all. Back i all fs) (append_assoc ps (f ∷ []) fs) (gathered_back i (ps ++ f ∷ []) fs fits.1))
   where

@@ -2,7 +2,7 @@
 use Rattle.std.specs.Prelude.{ℕ, ◌+◌, ◌-◌, ◌*◌, ◌/◌, ◌%◌, ◌^◌, ◌<◌, ◌≤◌, List, [], ◌∷◌, ℤ}
 use Rattle.std.specs.Int.{w32}
 use Rattle.std.proofs.Common.{of_z}
-use Rattle.std.specs.List.{AllByRecursion as All}
+use Rattle.std.specs.List.{AllByRecursion}
 use Rattle.riscv.specs.declared.words.Field.{Field}
 use Rattle.riscv.specs.declared.words.Field.TheVariants.{Bits, Immediate}
 
@@ -36,5 +36,5 @@ InWord (Bits count number) = (0 < count) × (count < 32)
 InWord (Immediate high low) = (low ≤ high) × (high < 31)
 
 pub record Laid (fields : List Field) : Type 0 where
-  pub each : All InWord fields
+  pub each : AllByRecursion InWord fields
   pub room : span fields ≤ 32

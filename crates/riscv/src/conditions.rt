@@ -1,6 +1,6 @@
 // Conditions over registers.
 ghost use Rattle.std.specs.Prelude.{◌≡◌};
-ghost use Rattle.riscv.specs.Instructions.{funct3 as funct3Of, inverse as inverse_of, inverted};
+ghost use Rattle.riscv.specs.Instructions.{funct3 as funct3_of, inverse as inverse_of, inverted};
 ghost use Rattle.riscv.specs.Reading.{condition as condition_of};
 
 // What is asked of the two registers, by the mnemonic that asks it.
@@ -17,7 +17,7 @@ pub enum Condition {
 impl Condition {
     // The number of the condition in a branch instruction.
     pub fn funct3(self) -> u32
-        ensures { result ≡ funct3Of self }
+        ensures { result ≡ funct3_of self }
     {
         match self {
             Condition::Beq => 0,
