@@ -1,39 +1,63 @@
--- Where the first word of a line ends.
-use Rattle.std.proofs.Common.{◌≡◌, ℕ, zero, suc, ◌+◌, ◌-◌, ◌<◌, ◌≤◌, true, false, List, [], ◌∷◌, length, get_or, take, drop, is_some, Some, None, Option, sym, ap, ◌∙◌, subst, ⊎_elim, add-zero, arith}
-use Rattle.std.proofs.lemmas.List.{drop_more, get_or-drop, length-drop, drop_all}
-use Rattle.std.proofs.lemmas.Bool.{both_ways, cases_lt, false≢true, cond-true, cond-false}
-use Rattle.query.specs.declared.words.Word.{Word}
-use Rattle.query.specs.Words.{Split, lengthened, separates, words}
+-- Where the first word of a line begins and ends.
+use Rattle.std.proofs.Common.{◌≡◌, ℕ, zero, suc, ◌<◌, Bool, true, false, not, List, [], ◌∷◌, length, get_or, take, drop, Some, None, refl, sym, ap, ◌∙◌, ⊎_elim, arith, one-add}
+use Rattle.std.proofs.lemmas.Bool.{cases_Bool, cond-true, cond-false, not-true, not-false}
+use Rattle.std.proofs.lemmas.List.Quantifiers.{position-Some}
+use Rattle.std.proofs.lemmas.List.Sums.{prefix_len-le-length}
+use Rattle.std.specs.List.{position, position_or_len}
+use Rattle.std.specs.Option.{unwrap_or}
+use Rattle.query.specs.Words.{lengthened, separates, words}
 
-pub first_word : (line : List ℕ) (n : ℕ) → 0 < n → n ≤ length line → ((k : ℕ) → k < n → separates (get_or line k 0) ≡ false) → (n < length line → separates (get_or line n 0) ≡ true) → words line ≡ take n line ∷ words (drop n line)
-first_word [] n some within joins stops = absurd (omega arith)
-first_word (c ∷ cs) zero some within joins stops = absurd (omega arith)
-first_word (c ∷ []) (suc zero) some within joins stops = cond-false (separates c) _ _ (joins 0 (omega arith))
-first_word (c ∷ []) (suc (suc n)) some within joins stops = absurd (omega arith)
-first_word (c ∷ (d ∷ ds)) (suc zero) some within joins stops =
-    cond-false (separates c) _ _ (joins 0 (omega arith)) ∙ cond-true (separates d) _ _ (stops (omega arith))
-first_word (c ∷ (d ∷ ds)) (suc (suc n)) some within joins stops =
-    cond-false (separates c) _ _ (joins 0 (omega arith)) ∙ cond-false (separates d) _ _ (joins 1 (omega arith))
-    ∙ ap (lengthened c) (first_word (d ∷ ds) (suc n) (omega arith) (omega arith) (λ k h. joins (suc k) (omega arith)) (λ h. stops (omega arith)))
+-- a byte of a word
+abbrev pub joins : ℕ → Bool
+joins c = not (separates c)
 
-pub skip_one : (line : List ℕ) (i : ℕ) → i < length line → separates (get_or line i 0) ≡ true → words (drop (i + 1) line) ≡ words (drop i line)
-skip_one line i within is =
-    sym (ap words (drop_more line i 0 within) ∙ cond-true (separates (get_or line i 0)) _ _ is)
+-- how long the word is that a line begins with
+abbrev run : List ℕ → ℕ
+run line = position_or_len separates line
 
-pub no_word : (line : List ℕ) (i : ℕ) → i ≡ length line → words (drop i line) ≡ words line → words line ≡ []
-no_word line i end skipped = sym skipped ∙ ap words (drop_all i line (omega arith))
+run_more : (c : ℕ) (cs : List ℕ) → separates c ≡ false → run (c ∷ cs) ≡ suc (run cs)
+run_more c cs h = rw h (one-add (run cs))
 
-zero_is : (n : ℕ) → n ≤ 0 → n ≡ 0
-zero_is n h = omega arith
+run_none : (c : ℕ) (cs : List ℕ) → separates c ≡ true → run (c ∷ cs) ≡ 0
+run_none c cs h = rw h refl
 
--- the word of n bytes that begins a line from i on
-pub some_word : (line : List ℕ) (i n : ℕ) (L : List ℕ) → L ≡ drop i line → words (drop i line) ≡ words line → i < length line → n ≤ length L → separates (get_or line i 0) ≡ false → ((k : ℕ) → k < n → separates (get_or L k 0) ≡ false) → (n < length L → separates (get_or L n 0) ≡ true) → words line ≡ take n L ∷ words (drop n L)
-some_word line i n L is skipped there within begins joins stops =
-    let same : get_or L 0 0 ≡ get_or line i 0 = ap (λ xs. get_or xs 0 0) is ∙ get_or-drop i line 0 0 ∙ ap (λ j. get_or line j 0) (add-zero i) in
-    let long : length L ≡ length line - i = ap length is ∙ length-drop i line in
-    let some : 0 < n = ⊎_elim (λ y. y) (λ none. absurd (both_ways (separates (get_or L 0 0)) (ap separates same ∙ begins) (subst (λ m. separates (get_or L m 0) ≡ true) (zero_is n none) (stops (omega arith))))) (cases_lt 0 n) in
-    sym skipped ∙ ap words (sym is) ∙ first_word L n some within joins stops
+-- the front of n bytes as a word, and the words after it
+abbrev cut : ℕ → List ℕ → List (List ℕ)
+cut n line = take n line ∷ words (drop n line)
 
-pub some_words : (line : List ℕ) (first : Option Word) → Split line first → is_some first ≡ true → words line ≡ [] → ⊥
-some_words line None split some = absurd (false≢true some)
-some_words line (Some word) split some = λ none. let z : ◌≡◌ {A = ℕ} 0 1 = cc in omega arith
+-- a line that begins with a word
+front : (c : ℕ) (cs : List ℕ) → separates c ≡ false → words (c ∷ cs) ≡ cut (run (c ∷ cs)) (c ∷ cs)
+front c [] h = rw h refl
+front c (d ∷ ds) h =
+    cond-false (separates c) _ _ h
+    ∙ ⊎_elim
+    (λ t. cond-true (separates d) _ _ t ∙ ap (λ n. cut (suc n) (c ∷ d ∷ ds)) (sym (run_none d ds t)))
+    (λ f. cond-false (separates d) _ _ f ∙ ap (lengthened c) (front d ds f))
+    (cases_Bool (separates d))
+    ∙ ap (λ n. cut n (c ∷ d ∷ ds)) (sym (run_more c (d ∷ ds) h))
+
+-- where no byte separates, the word is all
+run_is : (line : List ℕ) → unwrap_or (position separates line) (length line) ≡ run line
+run_is line = grind (arith, prefix_len-le-length joins line)
+
+-- the word that begins at i, after what separates
+from : (line : List ℕ) (i : ℕ) → i < length line → separates (get_or line i 0) ≡ false → ((k : ℕ) → k < i → separates (get_or line k 0) ≡ true) → words line ≡ cut (run (drop i line)) (drop i line)
+from [] i within begins gap = absurd (omega arith)
+from (c ∷ cs) zero within begins gap = front c cs begins
+from (c ∷ cs) (suc i) within begins gap = cond-true (separates c) _ _ (gap 0 (omega arith)) ∙ from cs i (omega arith) begins (λ k h. gap (suc k) (omega arith))
+
+-- the first word, by the places where it begins and ends
+pub first_word : (line : List ℕ) (i : ℕ) → position joins line ≡ Some i → words line ≡ cut (unwrap_or (position separates (drop i line)) (length (drop i line))) (drop i line)
+first_word line i is =
+    let first = position-Some joins line i 0 is in
+    from line i first.0 (not-true _ first.1) (λ k below. not-false _ (first.2 k below)) ∙ ap (λ n. cut n (drop i line)) (sym (run_is (drop i line)))
+
+skip : (c : ℕ) (cs : List ℕ) → separates c ≡ true → position joins (c ∷ cs) ≡ None → position joins cs ≡ None
+skip c cs t h = grind arith
+
+begun : (c : ℕ) (cs : List ℕ) → separates c ≡ false → position joins (c ∷ cs) ≡ None → ⊥
+begun c cs f h = grind arith
+
+pub no_word : (line : List ℕ) → position joins line ≡ None → words line ≡ []
+no_word [] h = refl
+no_word (c ∷ cs) h = ⊎_elim (λ t. cond-true (separates c) _ _ t ∙ no_word cs (skip c cs t h)) (λ f. absurd (begun c cs f h)) (cases_Bool (separates c))

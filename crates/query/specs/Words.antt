@@ -1,10 +1,10 @@
 -- The words of a line, and the numbers and bytes that words write.
 use Rattle.std.specs.Prelude.{◌≡◌, ℕ, ◌+◌, ◌*◌, ◌/◌, ◌%◌, Bool, cond, ◌&&◌, ◌||◌, List, [], ◌∷◌, drop, ℤ, pos, neg_ℤ, Some, None, Option, ◌==◌, nat_lt, slice_index}
+use Rattle.std.specs.Borrow.{Bor}
 use Rattle.std.specs.Option.{option_map}
 use Rattle.std.specs.Str.Parse.{digits_value}
 use Rattle.std.specs.List.{flat_map}
 use Rattle.std.specs.Char.{digit_char, digit_value}
-use Rattle.query.specs.declared.words.Word.{Word}
 
 -- a space or a tab
 abbrev pub separates : ℕ → Bool
@@ -26,9 +26,9 @@ words [] = []
 words (c ∷ cs) = cond (separates c) (words cs) (led c cs (words cs))
 
 -- the first word and what follows it, or that there is none
-abbrev pub Split : List ℕ → Option Word → Type 0
+abbrev pub Split : List ℕ → Option (Bor (List ℕ) × Bor (List ℕ)) → Type 0
 Split line None = words line ≡ []
-Split line (Some word) = words line ≡ word.text.now ∷ words word.rest.now
+Split line (Some (word, rest)) = words line ≡ word.now ∷ words rest.now
 
 -- a minus may stand before the digits of a signed number
 abbrev pub negative : List ℕ → Bool

@@ -20,16 +20,16 @@ pub enum Query {
 fn branch_words(line: &[u8]) -> Option<Branch>
     ensures { MatchOption result ((b : Triple) → BranchWords (words line.now) b → ⊥) (λ b. BranchWords (words line.now) b) }
 {
-    let kind = next_word(line)?;
-    let form = next_word(kind.rest)?;
-    let distance = next_word(form.rest)?;
-    if next_word(distance.rest).is_some() {
+    let (kind, rest) = next_word(line)?;
+    let (form, rest) = next_word(rest)?;
+    let (distance, rest) = next_word(rest)?;
+    if next_word(rest).is_some() {
         return None;
     }
     Some(Branch {
-        kind: unsigned(kind.text)?,
-        form: unsigned(form.text)?,
-        distance: signed(distance.text)?,
+        kind: unsigned(kind)?,
+        form: unsigned(form)?,
+        distance: signed(distance)?,
     })
 }
 
@@ -37,31 +37,19 @@ fn branch_words(line: &[u8]) -> Option<Branch>
 fn hex_word(heap: Global, line: &[u8]) -> Result<Option<Vec<u8>>, AllocError>
     ensures { IfOk result (λ o. MatchOption o ((bytes : List ℕ) → HexWord (words line.now) bytes → ⊥) (λ v. HexWord (words line.now) v.items)) }
 {
-    let Some(word) = next_word(line) else {
-        return Ok(None);
-    };
-    if next_word(word.rest).is_some() {
-        return Ok(None);
+    match next_word(line) {
+        Some((word, rest)) if next_word(rest).is_none() => read_hex(heap, word),
+        _ => Ok(None),
     }
-    read_hex(heap, word.text)
 }
 
 // What to do, after the target's name.
 fn task(heap: Global, line: &[u8]) -> Result<Option<Query>, AllocError>
     ensures { MatchResult result (λ query. Asked Task (words line.now) query) (λ _. TaskReads (words line.now)) }
 {
-    let Some(verb) = next_word(line) else {
-        return Ok(None);
-    };
-    match verb.text {
-        b"write" => match branch_words(verb.rest) {
-            Some(branch) => Ok(Some(Query::Write(branch))),
-            None => Ok(None),
-        },
-        b"read" => match hex_word(heap, verb.rest)? {
-            Some(bytes) => Ok(Some(Query::Read(bytes))),
-            None => Ok(None),
-        },
+    match next_word(line) {
+        Some((b"write", rest)) => Ok(branch_words(rest).map(Query::Write)),
+        Some((b"read", rest)) => Ok(hex_word(heap, rest)?.map(Query::Read)),
         _ => Ok(None),
     }
 }
@@ -70,11 +58,8 @@ fn task(heap: Global, line: &[u8]) -> Result<Option<Query>, AllocError>
 pub fn understand(heap: Global, line: &[u8]) -> Result<Option<Query>, AllocError>
     ensures { MatchResult result (λ query. Asked Asks (words line.now) query) (λ _. LineReads (words line.now)) }
 {
-    let Some(name) = next_word(line) else {
-        return Ok(None);
-    };
-    match name.text {
-        b"x86" => task(heap, name.rest),
+    match next_word(line) {
+        Some((b"x86", rest)) => task(heap, rest),
         _ => Ok(None),
     }
 }

@@ -1,20 +1,24 @@
 -- What follows the gap is a word, up to the first byte that separates.
-use Rattle.std.proofs.Common.{◌≡◌, ◌-◌, ◌<◌, length, take, drop, arith}
+use Rattle.std.proofs.Common.{◌≡◌, drop, sym, ◌∙◌, rules, tests}
+use Rattle.std.proofs.lemmas.Iterator.{YieldsList-from_slice}
+use Rattle.std.proofs.lemmas.Iterator.Search.{position_from_yields_List}
 use Rattle.std.proofs.lemmas.List.{take_rest}
-use Rattle.query.proofs.Splits.{no_word, some_word}
+use Rattle.std.specs.List.{position}
+use Rattle.query.specs.Words.{separates}
+use Rattle.query.proofs.Splits.{joins, first_word, no_word}
 use Rattle.query.proofs.words.next_word.Goals as goal
 
-pub returns-then-start-line : goal.returns-then-start-line
-returns-then-start-line c = no_word c.args.line.now c.gap-start.result c.if-start-line.true c.gap-start.ensures.same
+pub returns-in_err-start : goal.returns-in_err-start
+returns-in_err-start c =
+    let starts = position_from_yields_List joins _ _ c.position.result c.position.ensures.ran (YieldsList-from_slice c.args.line.now cc) (λ x b q k. search (rules, tests)) in
+    rw c.from_residual.ensures (no_word c.args.line.now (sym starts ∙ c.in_err-start.was))
 
 pub returns : goal.returns
 returns c =
-    let line = c.args.line.now in
-    let start = c.gap-start.result in
-    let end = c.run-end.result in
-    let L = take (length line - start) (drop start line) in
-    let there : start < length line = let h = c.gap-start.ensures.within in omega arith in
-    let found = some_word line start end L (take_rest line start) c.gap-start.ensures.same there c.run-end.ensures.within (c.gap-start.ensures.stops there) c.run-end.ensures.joins c.run-end.ensures.stops in
-    let same : end - 0 ≡ end = omega arith in
-    let rest = take_rest L end in
+    let starts = position_from_yields_List joins _ _ c.position.result c.position.ensures.ran (YieldsList-from_slice c.args.line.now cc) (λ x b q k. search (rules, tests)) in
+    let start = c.in_ok-start.start in
+    let line = drop start c.args.line.now in
+    let stops : c.position-2.result ≡ position separates line = position_from_yields_List separates _ _ c.position-2.result c.position-2.ensures.ran (YieldsList-from_slice line (c.iter-2.ensures.rest ∙ take_rest c.args.line.now start)) (λ x b q k. search (rules, tests)) in
+    let whole = take_rest c.args.line.now start in
+    let word = first_word c.args.line.now start (sym starts ∙ c.in_ok-start.was) in
     cc
