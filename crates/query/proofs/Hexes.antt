@@ -1,9 +1,12 @@
 -- Hexadecimal words, one byte at a time.
-use Rattle.std.proofs.Common.{◌≡◌, ℕ, ◌+◌, ◌*◌, ◌/◌, ◌%◌, ◌<◌, ◌≤◌, List, [], ◌∷◌, ◌++◌, length, get_or, take, drop, Some, None, Option, sym, refl, ap, ◌∙◌, arith}
-use Rattle.std.proofs.lemmas.List.{append_assoc, flat_map_more, take_more}
+use Rattle.std.proofs.Common.{◌≡◌, ℕ, suc, ◌+◌, ◌-◌, ◌*◌, ◌^◌, ◌<◌, ◌≤◌, false, List, [], ◌∷◌, ◌++◌, length, get_or, drop, Some, None, Option, sym, refl, ap, ◌∙◌, arith}
+use Rattle.std.proofs.lemmas.Fmt.{hex_byte}
+use Rattle.std.proofs.lemmas.List.{append_assoc}
 use Rattle.std.proofs.lemmas.Bool.{and_from, cond-true, lt-ltb}
+use Rattle.std.specs.Fmt.{digits, format_spec, padded_integral}
+use Rattle.std.specs.List.{flat_map}
 use Rattle.std.specs.Option.{option_map}
-use Rattle.std.specs.Char.{digit_char, digit_value}
+use Rattle.std.specs.Char.{digit_value}
 use Rattle.query.specs.Words.{hex, two_digits, unhex}
 
 unhex_more : (word : List ℕ) → 2 ≤ length word → digit_value (get_or word 0 0) < 16 → digit_value (get_or word 1 0) < 16 → unhex word ≡ option_map (λ bs. (digit_value (get_or word 0 0) * 16 + digit_value (get_or word 1 0)) ∷ bs) (unhex (drop 2 word))
@@ -25,12 +28,14 @@ unhex_pushed whole bytes pushed rest tail b so_far long is digits push =
     ∙ ap (λ xs. option_map (λ bs. xs ++ bs) (unhex (drop 2 rest))) (sym push)
     ∙ ap (λ t. option_map (λ bs. pushed ++ bs) (unhex t)) (sym is)
 
--- a byte written after the others
-pub hex_pushed : (before now one two : List ℕ) (bytes : List ℕ) (i high low : ℕ) → now ≡ before ++ hex (take i bytes) → i < length bytes → high ≡ digit_char (get_or bytes i 0 / 16) → low ≡ digit_char (get_or bytes i 0 % 16) → one ≡ now ++ (high ∷ []) → two ≡ one ++ (low ∷ []) → two ≡ before ++ hex (take (i + 1) bytes)
-hex_pushed before now one two bytes i high low so_far within h l first second =
-    second ∙ ap (λ xs. xs ++ (low ∷ [])) first ∙ append_assoc now (high ∷ []) (low ∷ [])
-    ∙ ap (λ xs. xs ++ (high ∷ low ∷ [])) so_far
-    ∙ ap (λ x. (before ++ hex (take i bytes)) ++ (x ∷ low ∷ [])) h
-    ∙ ap (λ x. (before ++ hex (take i bytes)) ++ (digit_char (get_or bytes i 0 / 16) ∷ x ∷ [])) l
-    ∙ flat_map_more two_digits before (take i bytes) (get_or bytes i 0)
-    ∙ ap (λ xs. before ++ hex xs) (sym (take_more bytes i 0 within))
+-- a byte as `{:02x}` writes it
+abbrev pub printed : ℕ → List ℕ
+printed b = padded_integral (format_spec 32 0 4 2 (2 ^ 64 - 1)) false [] (digits 16 false b)
+
+-- every number is a byte
+abbrev pub AreBytes : List ℕ → Type 0
+AreBytes bytes = (k : ℕ) → get_or bytes k 0 < 2 ^ 8
+
+pub all_printed : (bytes : List ℕ) → AreBytes bytes → flat_map printed bytes ≡ hex bytes
+all_printed [] are = refl
+all_printed (b ∷ bs) are = ap (λ ds. ds ++ flat_map printed bs) (hex_byte false b (are 0)) ∙ ap (λ ds. two_digits b ++ ds) (all_printed bs (λ k. are (suc k)))

@@ -32,25 +32,3 @@ pub fn read_hex(heap: Global, word: &[u8]) -> Result<Option<Vec<u8>>, AllocError
     }
     Ok(None)
 }
-
-fn digit(value: u8) -> u8
-    requires { value < 16 }
-    ensures { result ≡ digit_char value }
-{
-    if value < 10 {
-        b'0' + value
-    } else {
-        b'a' - 10 + value
-    }
-}
-
-// Appends bytes in lowercase hexadecimal.
-pub fn push_hex(text: &mut Vec<u8>, bytes: &[u8]) -> Result<(), AllocError>
-    ensures { OnOk result (text.new.items ≡ text.old.items ++ hex_of bytes.now) }
-{
-    for b in bytes {
-        text.push(digit(*b / 16))?;
-        text.push(digit(*b % 16))?;
-    }
-    Ok(())
-}

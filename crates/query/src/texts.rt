@@ -1,45 +1,21 @@
-// An answer's text, and the reply to a line.
-ghost use Rattle.std.specs.Prelude.{◌≡◌, [], ◌++◌, IfOk, MatchResult, OnOk, ◌≢◌};
-ghost use Rattle.query.specs.Answers.{LineTakesMemory, Replied, Right, WithAnswer, text as text_of};
+// The reply to a line.
+ghost use Rattle.std.specs.Prelude.{[], IfOk, MatchResult, ◌≢◌};
+ghost use Rattle.query.specs.Answers.{LineTakesMemory, Replied, Right, WithAnswer};
 ghost use Rattle.query.specs.Words.{words};
 
 use crate::answers::{Answer, answer_query};
-use crate::hex::push_hex;
 use crate::queries::understand;
 use crate::words::next_word;
 use std::alloc::{AllocError, Global};
 use x86::X86;
 
-// Appends the text of an answer.
-fn push_answer(heap: Global, out: &mut Vec<u8>, answer: &Answer) -> Result<(), AllocError>
-    ensures { OnOk result (out.new.items ≡ out.old.items ++ text_of answer.now) }
-{
-    match answer {
-        Answer::Bytes(bytes) => push_hex(out, bytes.as_slice()),
-        Answer::Refused(fault) => {
-            let code = fault.code();
-            let text = format!(in heap; "refused {code}")?;
-            out.extend_from_slice(text.as_bytes())
-        }
-        Answer::Found(branch) => {
-            let kind = branch.kind;
-            let form = branch.form;
-            let distance = branch.distance;
-            let text = format!(in heap; "kind {kind} form {form} distance {distance}")?;
-            out.extend_from_slice(text.as_bytes())
-        }
-        Answer::NoBranch => out.extend_from_slice("no branch".as_bytes()),
-        Answer::NotUnderstood => out.extend_from_slice("not understood".as_bytes()),
-    }
-}
-
-// The answer to a line.
-fn answer_line(heap: Global, line: &[u8]) -> Result<Answer, AllocError>
+// The answer to a line, or that it is not understood.
+fn answer_line(heap: Global, line: &[u8]) -> Result<Option<Answer>, AllocError>
     ensures { MatchResult result (λ a. Right line.now a) (λ _. LineTakesMemory line.now) }
 {
     match understand(heap, line)? {
-        Some(query) => answer_query(heap, &X86, query),
-        None => Ok(Answer::NotUnderstood),
+        Some(query) => answer_query(heap, &X86, query).map(Some),
+        None => Ok(None),
     }
 }
 
@@ -47,11 +23,13 @@ fn answer_line(heap: Global, line: &[u8]) -> Result<Answer, AllocError>
 fn answered(heap: Global, line: &[u8]) -> Result<Vec<u8>, AllocError>
     ensures { IfOk result (λ out. WithAnswer line.now out.items) }
 {
-    let mut out = Vec::new(heap);
-    let answer = answer_line(heap, line)?;
-    out.extend_from_slice(line)?;
+    let text = match answer_line(heap, line)? {
+        Some(answer) => answer.to_string(heap)?,
+        None => "not understood".to_string(heap)?,
+    };
+    let mut out = Vec::from_slice(heap, line)?;
     out.extend_from_slice(b" = ")?;
-    push_answer(heap, &mut out, &answer)?;
+    out.extend_from_slice(text.as_bytes())?;
     out.push(b'\n')?;
     Ok(out)
 }
