@@ -1,32 +1,84 @@
 -- Hexadecimal words, one byte at a time.
-use Rattle.std.proofs.Common.{◌≡◌, ℕ, suc, ◌+◌, ◌-◌, ◌*◌, ◌^◌, ◌<◌, ◌≤◌, false, List, [], ◌∷◌, ◌++◌, length, get_or, drop, Some, None, Option, sym, refl, ap, ◌∙◌, arith}
+use Rattle.std.proofs.Common.{Vec, Global, vec_items, ◌≡◌, ℕ, suc, ◌+◌, ◌-◌, ◌*◌, ◌/◌, ◌%◌, ◌^◌, ◌<◌, ◌≤◌, Bool, true, false, cond, ◌&&◌, nat_lt, List, [], ◌∷◌, ◌++◌, length, get_or, Some, None, Option, Ok, Err, is_ok, Result, MatchResult, ⊎_elim, sym, refl, ap, ◌∙◌, arith}
 use Rattle.std.proofs.lemmas.Fmt.{hex_byte}
-use Rattle.std.proofs.lemmas.List.{append_assoc}
-use Rattle.std.proofs.lemmas.Bool.{and_from, cond-true, lt-ltb}
+use Rattle.std.proofs.lemmas.Bool.{cases_eq, cases_lt, cond-true, cond-false, lt-ltb, le-ltb}
+use Rattle.std.specs.Bool.{then_some}
 use Rattle.std.specs.Fmt.{digits, format_spec, padded_integral}
 use Rattle.std.specs.List.{flat_map}
 use Rattle.std.specs.Option.{option_map}
+use Rattle.std.specs.Result.{result_ok}
 use Rattle.std.specs.Char.{digit_value}
+use Rattle.hex.specs.Hex.{decode_pairs, decode_sized, digit_or_error, hex_digit_value, ◌>>=◌}
+use Rattle.hex.specs.declared.error.FromHexError.{FromHexError}
+use Rattle.hex.specs.declared.error.FromHexError.TheVariants.{OddLength}
+use Rattle.hex.proofs.Pairs.{decode_sized-pairs}
 use Rattle.query.specs.Words.{hex, two_digits, unhex}
 
-unhex_more : (word : List ℕ) → 2 ≤ length word → digit_value (get_or word 0 0) < 16 → digit_value (get_or word 1 0) < 16 → unhex word ≡ option_map (λ bs. (digit_value (get_or word 0 0) * 16 + digit_value (get_or word 1 0)) ∷ bs) (unhex (drop 2 word))
-unhex_more [] long high low = absurd (omega arith)
-unhex_more (h ∷ []) long high low = absurd (omega arith)
-unhex_more (h ∷ (l ∷ word)) long high low = cond-true _ _ _ (and_from _ _ (lt-ltb (digit_value h) 16 high) (lt-ltb (digit_value l) 16 low))
+-- a digit is one of the library's, of the same value
+abbrev Agrees : ℕ → Type 0
+Agrees c = hex_digit_value c ≡ cond (nat_lt (digit_value c) 16) (Some (digit_value c)) None
 
-mapped_push : (bytes : List ℕ) (b : ℕ) (rest : Option (List ℕ)) → option_map (λ bs. bytes ++ bs) (option_map (λ bs. b ∷ bs) rest) ≡ option_map (λ bs. (bytes ++ (b ∷ [])) ++ bs) rest
-mapped_push bytes b None = refl
-mapped_push bytes b (Some bs) = ap Some (sym (append_assoc bytes (b ∷ []) bs))
+reads : (c v : ℕ) → hex_digit_value c ≡ Some v → digit_value c ≡ v → v < 16 → Agrees c
+reads c v is value small = is ∙ sym (cond-true _ _ _ (lt-ltb (digit_value c) 16 (omega (arith, value))) ∙ ap Some value)
 
--- a byte read from the front of what is left
-pub unhex_pushed : (whole : Option (List ℕ)) (bytes pushed rest tail : List ℕ) (b : ℕ) → whole ≡ option_map (λ bs. bytes ++ bs) (unhex rest) → 2 ≤ length rest → tail ≡ drop 2 rest → ((digit_value (get_or rest 0 0) < 16) × (digit_value (get_or rest 1 0) < 16)) × (b ≡ digit_value (get_or rest 0 0) * 16 + digit_value (get_or rest 1 0)) → pushed ≡ bytes ++ (b ∷ []) → whole ≡ option_map (λ bs. pushed ++ bs) (unhex tail)
-unhex_pushed whole bytes pushed rest tail b so_far long is digits push =
-    so_far
-    ∙ ap (option_map (λ bs. bytes ++ bs)) (unhex_more rest long digits.0.0 digits.0.1)
-    ∙ mapped_push bytes _ (unhex (drop 2 rest))
-    ∙ ap (λ x. option_map (λ bs. (bytes ++ (x ∷ [])) ++ bs) (unhex (drop 2 rest))) (sym digits.1)
-    ∙ ap (λ xs. option_map (λ bs. xs ++ bs) (unhex (drop 2 rest))) (sym push)
-    ∙ ap (λ t. option_map (λ bs. pushed ++ bs) (unhex t)) (sym is)
+reads_not : (c : ℕ) → hex_digit_value c ≡ None → 16 ≤ digit_value c → Agrees c
+reads_not c is large = is ∙ sym (cond-false _ _ _ (le-ltb (digit_value c) 16 large))
+
+digit_is : (c : ℕ) → Agrees c
+digit_is c =
+    ⊎_elim (λ a. reads_not c (grind arith) (grind arith)) (λ a.
+    ⊎_elim (λ b. reads c (c - 48) (grind arith) (grind arith) (omega arith)) (λ b.
+    ⊎_elim (λ d. reads_not c (grind arith) (grind arith)) (λ d.
+    ⊎_elim (λ e. reads c (c - 55) (grind arith) (grind arith) (omega arith)) (λ e.
+    ⊎_elim (λ f. reads_not c (grind arith) (grind arith)) (λ f.
+    ⊎_elim (λ g. reads c (c - 87) (grind arith) (grind arith) (omega arith)) (λ g. reads_not c (grind arith) (grind arith))
+    (cases_lt c 103)) (cases_lt c 97)) (cases_lt c 71)) (cases_lt c 65)) (cases_lt c 58)) (cases_lt c 48)
+
+-- two digits, and the bytes of those after them
+abbrev paired : ℕ → ℕ → ℕ → Option ℕ → Option ℕ → Result (List ℕ) FromHexError → Option (List ℕ)
+paired h l i high low rest = result_ok ((digit_or_error h i high >>= (λ x. digit_or_error l (i + 1) low >>= (λ y. Ok (x * 16 + y)))) >>= (λ b. rest >>= (λ bs. Ok (b ∷ bs))))
+
+paired_is : (h l i x y : ℕ) (p q : Bool) (rest : Result (List ℕ) FromHexError) → paired h l i (cond p (Some x) None) (cond q (Some y) None) rest ≡ cond (p && q) (option_map (λ bs. (x * 16 + y) ∷ bs) (result_ok rest)) None
+paired_is h l i x y true true (Ok bs) = refl
+paired_is h l i x y true true (Err e) = refl
+paired_is h l i x y true false rest = refl
+paired_is h l i x y false q rest = refl
+
+pairs_are : (i : ℕ) (word : List ℕ) → result_ok (decode_pairs i word) ≡ unhex word
+unfolding decode_pairs
+pairs_are i [] = refl
+pairs_are i (d ∷ []) = refl
+pairs_are i (h ∷ (l ∷ word)) =
+    ap (λ o. paired h l i o (hex_digit_value l) (decode_pairs (i + 2) word)) (digit_is h)
+    ∙ ap (λ o. paired h l i (cond (nat_lt (digit_value h) 16) (Some (digit_value h)) None) o (decode_pairs (i + 2) word)) (digit_is l)
+    ∙ paired_is h l i (digit_value h) (digit_value l) _ _ (decode_pairs (i + 2) word)
+    ∙ ap (λ o. cond (nat_lt (digit_value h) 16 && nat_lt (digit_value l) 16) (option_map (λ bs. (digit_value h * 16 + digit_value l) ∷ bs) o) None) (pairs_are (i + 2) word)
+
+none_either : {X : Type 0} (b : Bool) → cond b None None ≡ (let none : Option X = None in none)
+none_either true = refl
+none_either false = refl
+
+unhex_odd : (word : List ℕ) → length word % 2 ≡ 1 → unhex word ≡ None
+unhex_odd [] odd = absurd (omega arith)
+unhex_odd (d ∷ []) odd = refl
+unhex_odd (h ∷ (l ∷ word)) odd = ap (λ o. cond (nat_lt (digit_value h) 16 && nat_lt (digit_value l) 16) (option_map (λ bs. (digit_value h * 16 + digit_value l) ∷ bs) o) None) (unhex_odd word (omega arith)) ∙ none_either _
+
+-- the library decodes what our own words say
+pub decoded_is : (word : List ℕ) → result_ok (decode_sized word (length word / 2)) ≡ unhex word
+decoded_is word =
+    ⊎_elim
+    (λ odd. let refused : decode_sized word (length word / 2) ≡ Err OddLength = grind arith in ap result_ok refused ∙ sym (unhex_odd word odd))
+    (λ even. ap result_ok (decode_sized-pairs word (length word / 2) (omega arith) refl) ∙ pairs_are 0 word)
+    (cases_eq (length word % 2) 1)
+
+-- what is left in memory after decoding into it
+pub written_is : (d : Result (List ℕ) FromHexError) (r : Result (Unit {0}) FromHexError) (out : List ℕ) → MatchResult d (λ bs. (r ≡ Ok tt) × (out ≡ bs)) (λ e. r ≡ Err e) → then_some (is_ok r) out ≡ result_ok d
+written_is (Ok bs) r out h = rw h.0 (ap Some h.1)
+written_is (Err e) r out h = rw h refl
+
+pub then_some_items : (b : Bool) (v : Vec ℕ Global) → option_map vec_items (then_some b v) ≡ then_some b (vec_items v)
+then_some_items true v = refl
+then_some_items false v = refl
 
 -- a byte as `{:02x}` writes it
 abbrev pub printed : ℕ → List ℕ

@@ -2,7 +2,6 @@
 #![tactic(auto)]
 
 mod answers;
-mod hex;
 mod numbers;
 mod queries;
 mod texts;

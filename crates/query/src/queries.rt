@@ -4,8 +4,7 @@ ghost use Rattle.target.specs.declared.interface.Branch.{Branch as Triple};
 ghost use Rattle.query.specs.Queries.{Asked, Asks, BranchWords, HexWord, LineReads, Task, TaskReads};
 ghost use Rattle.query.specs.Words.{words};
 
-use crate::hex::read_hex;
-use crate::numbers::{signed, unsigned};
+use crate::numbers::{read_hex, signed, unsigned};
 use crate::words::next_word;
 use std::alloc::{AllocError, Global};
 use target::Branch;
