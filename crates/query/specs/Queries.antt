@@ -1,5 +1,5 @@
 -- What a line asks.
-use Rattle.std.specs.Prelude.{◌≡◌, ℕ, ◌^◌, ◌<◌, List, [], ◌∷◌, ℤ, Some, None, vec_items, codes, Option, FitsSigned}
+use Rattle.std.specs.Prelude.{◌≡◌, ℕ, Bool, ◌^◌, ◌<◌, List, [], ◌∷◌, ℤ, Some, None, vec_items, codes, Option, FitsSigned, Ok, Err, Result, false, ◌==◌, ◌⊎◌, slice_index}
 use Rattle.std.specs.Int.{w32}
 use Rattle.std.specs.Str.Parse.{IsNumeral, digits_value}
 use Rattle.target.specs.declared.interface.Branch.{Branch}
@@ -16,6 +16,11 @@ abbrev pub question : Query → Question
 question (Write branch) = write branch
 question (Read bytes) = read (vec_items bytes)
 
+-- what was found of a kind, or that there is nothing of it
+abbrev pub Found : {X : Type 0} → (X → Type 0) → Option X → Type 0
+Found {X} Is None = (x : X) → Is x → ⊥
+Found Is (Some x) = Is x
+
 -- a word of decimal digits that write a number below 2^32
 pub record Unsigned (word : List ℕ) (n : ℕ) : Type 0 where
   pub digits : IsNumeral 10 word
@@ -27,6 +32,19 @@ pub record Signed (word : List ℕ) (z : ℤ) : Type 0 where
   pub digits : IsNumeral 10 (after_minus word)
   pub small : FitsSigned w32 (integer word)
   pub is : z ≡ integer word
+
+-- a word that is neither digits nor a minus and digits
+abbrev pub NoDigits : List ℕ → Type 0
+NoDigits word = ¬ (IsNumeral 10 word) × ¬ (IsNumeral 10 (after_minus word))
+
+-- a plus may stand before digits for std, and not here
+abbrev pub plus_first : List ℕ → Bool
+plus_first word = slice_index word 0 == 43
+
+-- what a type reads in a word: what its parsing gives, but none where a plus stands first
+abbrev pub Parsed : {N E : Type 0} → (List ℕ → Result N E → Type 0) → List ℕ → Option N → Type 0
+Parsed {N} {E} gives word None = NoDigits word ⊎ ((plus_first word ≡ false) × (e : E) × gives word (Err e))
+Parsed gives word (Some n) = (plus_first word ≡ false) × gives word (Ok n)
 
 -- kind, form and distance
 pub record BranchWords (ws : List (List ℕ)) (branch : Branch) : Type 0 where
