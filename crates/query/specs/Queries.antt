@@ -1,6 +1,7 @@
 -- What a line asks.
 use Rattle.std.specs.Prelude.{◌≡◌, ℕ, Bool, ◌^◌, ◌<◌, List, [], ◌∷◌, ℤ, Some, None, vec_items, codes, Option, FitsSigned, Ok, Err, Result, false, ◌==◌, ◌⊎◌, slice_index}
 use Rattle.std.specs.Int.{w32}
+use Rattle.std.specs.Option.{option_map}
 use Rattle.std.specs.Str.Parse.{IsNumeral, digits_value}
 use Rattle.target.specs.declared.interface.Branch.{Branch}
 use Rattle.query.specs.declared.queries.Query.{Query}
@@ -73,8 +74,7 @@ Asks ws q = (rest : List (List ℕ)) × (ws ≡ codes "x86" ∷ rest) × Task re
 
 -- what was made of words: the question that they put, or none where they put none
 abbrev pub Asked : (List (List ℕ) → Question → Type 0) → List (List ℕ) → Option Query → Type 0
-Asked Puts ws None = (q : Question) → Puts ws q → ⊥
-Asked Puts ws (Some query) = Puts ws (question query)
+Asked Puts ws query = Found (Puts ws) (option_map question query)
 
 -- words that are to read bytes, which take memory on the heap: as a task, and as a line
 abbrev pub TaskReads : List (List ℕ) → Type 0

@@ -1,7 +1,7 @@
 // What a line asks: a branch to write, or bytes to read.
-ghost use Rattle.std.specs.Prelude.{ℕ, List, IfOk, MatchOption, MatchResult};
-ghost use Rattle.target.specs.declared.interface.Branch.{Branch as Triple};
-ghost use Rattle.query.specs.Queries.{Asked, Asks, BranchWords, HexWord, LineReads, Task, TaskReads};
+ghost use Rattle.std.specs.Prelude.{IfOk, MatchResult, vec_items};
+ghost use Rattle.std.specs.Option.{option_map};
+ghost use Rattle.query.specs.Queries.{Asked, Asks, BranchWords, Found, HexWord, LineReads, Task, TaskReads};
 ghost use Rattle.query.specs.Words.{words};
 
 use crate::numbers::{read_hex, signed, unsigned};
@@ -17,7 +17,7 @@ pub enum Query {
 
 // Kind, form and distance, one word each.
 fn branch_words(line: &[u8]) -> Option<Branch>
-    ensures { MatchOption result ((b : Triple) → BranchWords (words line.now) b → ⊥) (λ b. BranchWords (words line.now) b) }
+    ensures { Found (BranchWords (words line.now)) result }
 {
     let (kind, rest) = next_word(line)?;
     let (form, rest) = next_word(rest)?;
@@ -34,7 +34,7 @@ fn branch_words(line: &[u8]) -> Option<Branch>
 
 // One word of hexadecimal digits.
 fn hex_word(heap: Global, line: &[u8]) -> Result<Option<Vec<u8>>, AllocError>
-    ensures { IfOk result (λ o. MatchOption o ((bytes : List ℕ) → HexWord (words line.now) bytes → ⊥) (λ v. HexWord (words line.now) v.items)) }
+    ensures { IfOk result (λ bytes. Found (HexWord (words line.now)) (option_map vec_items bytes)) }
 {
     match next_word(line) {
         Some((word, rest)) if next_word(rest).is_none() => read_hex(heap, word),
