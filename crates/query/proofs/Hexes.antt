@@ -38,30 +38,26 @@ digit_is c =
 abbrev paired : ℕ → ℕ → ℕ → Option ℕ → Option ℕ → Result (List ℕ) FromHexError → Option (List ℕ)
 paired h l i high low rest = result_ok ((digit_or_error h i high >>= (λ x. digit_or_error l (i + 1) low >>= (λ y. Ok (x * 16 + y)))) >>= (λ b. rest >>= (λ bs. Ok (b ∷ bs))))
 
-paired_is : (h l i x y : ℕ) (p q : Bool) (rest : Result (List ℕ) FromHexError) → paired h l i (cond p (Some x) None) (cond q (Some y) None) rest ≡ cond (p && q) (option_map (λ bs. (x * 16 + y) ∷ bs) (result_ok rest)) None
-paired_is h l i x y true true (Ok bs) = refl
-paired_is h l i x y true true (Err e) = refl
-paired_is h l i x y true false rest = refl
-paired_is h l i x y false q rest = refl
+paired_is : (h l i x y : ℕ) (p q : Bool) (high low : Option ℕ) (rest : Result (List ℕ) FromHexError) (bytes : Option (List ℕ)) → high ≡ cond p (Some x) None → low ≡ cond q (Some y) None → result_ok rest ≡ bytes → paired h l i high low rest ≡ cond (p && q) (option_map (λ bs. (x * 16 + y) ∷ bs) bytes) None
+paired_is h l i x y true true high low (Ok bs) bytes a b c = rw (a, b, ← c) refl
+paired_is h l i x y true true high low (Err e) bytes a b c = rw (a, b, ← c) refl
+paired_is h l i x y true false high low rest bytes a b c = rw (a, b) refl
+paired_is h l i x y false q high low rest bytes a b c = rw a refl
 
 pairs_are : (i : ℕ) (word : List ℕ) → result_ok (decode_pairs i word) ≡ unhex word
 unfolding decode_pairs
 pairs_are i [] = refl
 pairs_are i (d ∷ []) = refl
-pairs_are i (h ∷ (l ∷ word)) =
-    ap (λ o. paired h l i o (hex_digit_value l) (decode_pairs (i + 2) word)) (digit_is h)
-    ∙ ap (λ o. paired h l i (cond (nat_lt (digit_value h) 16) (Some (digit_value h)) None) o (decode_pairs (i + 2) word)) (digit_is l)
-    ∙ paired_is h l i (digit_value h) (digit_value l) _ _ (decode_pairs (i + 2) word)
-    ∙ ap (λ o. cond (nat_lt (digit_value h) 16 && nat_lt (digit_value l) 16) (option_map (λ bs. (digit_value h * 16 + digit_value l) ∷ bs) o) None) (pairs_are (i + 2) word)
+pairs_are i (h ∷ (l ∷ word)) = paired_is h l i _ _ _ _ _ _ (decode_pairs (i + 2) word) _ (digit_is h) (digit_is l) (pairs_are (i + 2) word)
 
-none_either : {X : Type 0} (b : Bool) → cond b None None ≡ (let none : Option X = None in none)
-none_either true = refl
-none_either false = refl
+none_after : {X : Type 0} (b : Bool) (f : X → X) (o : Option X) → o ≡ None → cond b (option_map f o) None ≡ None
+none_after true f o h = ap (option_map f) h
+none_after false f o h = refl
 
 unhex_odd : (word : List ℕ) → length word % 2 ≡ 1 → unhex word ≡ None
 unhex_odd [] odd = absurd (omega arith)
 unhex_odd (d ∷ []) odd = refl
-unhex_odd (h ∷ (l ∷ word)) odd = ap (λ o. cond (nat_lt (digit_value h) 16 && nat_lt (digit_value l) 16) (option_map (λ bs. (digit_value h * 16 + digit_value l) ∷ bs) o) None) (unhex_odd word (omega arith)) ∙ none_either _
+unhex_odd (h ∷ (l ∷ word)) odd = none_after _ _ _ (unhex_odd word (omega arith))
 
 -- the library decodes what our own words say
 pub decoded_is : (word : List ℕ) → result_ok (decode_sized word (length word / 2)) ≡ unhex word
