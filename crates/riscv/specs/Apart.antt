@@ -2,11 +2,10 @@
 use Rattle.std.specs.Prelude.{◌≡◌, ℕ, ◌*◌, ◌%◌, ◌^◌, ◌<◌, ◌≤◌, cond, ◌⊎◌, List, length, take, drop, ℤ, pos, negsuc, ◌+ℤ◌, ◌-ℤ◌, ◌*ℤ◌, ◌≤ℤ◌, ◌<ℤ◌, Some, Option, ◌==◌, ◌≢◌, refl}
 use Rattle.std.proofs.Common.{sym, ap, ◌∙◌, subst, inl, inr, ⊎_elim, arith, lit≤, of_z}
 use Rattle.std.specs.Int.Signed.{le_z_yes, lt_z_yes, shr_z}
-use Rattle.std.specs.Int.{w32}
+use Rattle.std.specs.Int.{from_le_bytes, to_le_bytes, w16, w32}
 use Rattle.std.proofs.lemmas.Int.{ints}
-use Rattle.target.specs.Bytes.{four_bytes, two_bytes}
+use Rattle.std.proofs.lemmas.Nat.{from_le_bytes-to_le_bytes_2, from_le_bytes-to_le_bytes_4}
 use Rattle.target.specs.Table.{Takes}
-use Rattle.target.proofs.Bytes.{four_bytes_apart, two_bytes_apart}
 use Rattle.riscv.specs.declared.encodings.Encoding.{Encoding}
 use Rattle.riscv.specs.declared.encodings.Encoding.TheVariants.{One, Far, Long}
 use Rattle.riscv.specs.declared.conditions.Comparison.{Comparison}
@@ -51,11 +50,18 @@ module _ (x : Instruction) (i : ℤ) where
   pub word_below : (n : ℕ) → size x ≡ n → word x i < 2 ^ (8 * n)
   word_below n is = subst (λ k. word x i < 2 ^ k) (spans x ∙ ap (λ k. 8 * k) is) (number_below (layout x) i)
 
-  pub stored_two : size x ≡ 2 → stored x i ≡ two_bytes (word x i)
-  stored_two is = ap (λ n. cond (n == 2) (two_bytes (word x i)) (four_bytes (word x i))) is
+  pub stored_two : size x ≡ 2 → stored x i ≡ to_le_bytes w16 (word x i)
+  stored_two is = ap (λ n. cond (n == 2) (to_le_bytes w16 (word x i)) (to_le_bytes w32 (word x i))) is
 
-  pub stored_four : size x ≡ 4 → stored x i ≡ four_bytes (word x i)
-  stored_four is = ap (λ n. cond (n == 2) (two_bytes (word x i)) (four_bytes (word x i))) is
+  pub stored_four : size x ≡ 4 → stored x i ≡ to_le_bytes w32 (word x i)
+  stored_four is = ap (λ n. cond (n == 2) (to_le_bytes w16 (word x i)) (to_le_bytes w32 (word x i))) is
+
+-- words with the same bytes are the same number
+pub halves_apart : (m n : ℕ) → m < 2 ^ 16 → n < 2 ^ 16 → to_le_bytes w16 m ≡ to_le_bytes w16 n → m ≡ n
+halves_apart m n hm hn same = sym (from_le_bytes-to_le_bytes_2 m hm) ∙ ap (from_le_bytes w16) same ∙ from_le_bytes-to_le_bytes_2 n hn
+
+pub wholes_apart : (m n : ℕ) → m < 2 ^ 32 → n < 2 ^ 32 → to_le_bytes w32 m ≡ to_le_bytes w32 n → m ≡ n
+wholes_apart m n hm hn same = sym (from_le_bytes-to_le_bytes_4 m hm) ∙ ap (from_le_bytes w32) same ∙ from_le_bytes-to_le_bytes_4 n hn
 
 -- two instructions with their immediates
 module _ (x y : Instruction) (i j : ℤ) (r : Registers x) (r' : Registers y) (carries : Carries x i) (carries' : Carries y j) where
@@ -67,8 +73,8 @@ module _ (x y : Instruction) (i j : ℤ) (r : Registers x) (r' : Registers y) (c
   pub stored_apart : stored x i ≡ stored y j → (x ≡ y) × (i ≡ j)
   stored_apart same =
       let sized : size x ≡ size y = sym (stored_fills x i) ∙ ap length same ∙ stored_fills y j in
-      let halves = λ (s : size x ≡ 2). two_bytes_apart (word x i) (word y j) (word_below x i 2 s) (word_below y j 2 (sym sized ∙ s)) (sym (stored_two x i s) ∙ same ∙ stored_two y j (sym sized ∙ s)) in
-      let wholes = λ (s : size x ≡ 4). four_bytes_apart (word x i) (word y j) (word_below x i 4 s) (word_below y j 4 (sym sized ∙ s)) (sym (stored_four x i s) ∙ same ∙ stored_four y j (sym sized ∙ s)) in
+      let halves = λ (s : size x ≡ 2). halves_apart (word x i) (word y j) (word_below x i 2 s) (word_below y j 2 (sym sized ∙ s)) (sym (stored_two x i s) ∙ same ∙ stored_two y j (sym sized ∙ s)) in
+      let wholes = λ (s : size x ≡ 4). wholes_apart (word x i) (word y j) (word_below x i 4 s) (word_below y j 4 (sym sized ∙ s)) (sym (stored_four x i s) ∙ same ∙ stored_four y j (sym sized ∙ s)) in
       words_apart sized (⊎_elim halves wholes (sizes x))
 
 -- a quotient rounded down, and what is left

@@ -1,6 +1,6 @@
 -- The instructions of the RISC-V manual that branches are made of.
 use Rattle.std.specs.Prelude.{ℕ, ◌-◌, ◌/◌, cond, List, [], ◌∷◌, ℤ, ◌==◌}
-use Rattle.target.specs.Bytes.{four_bytes, two_bytes}
+use Rattle.std.specs.Int.{to_le_bytes, w16, w32}
 use Rattle.riscv.specs.declared.words.Field.{Field}
 use Rattle.riscv.specs.declared.words.Field.TheVariants.{Bits, Immediate}
 use Rattle.riscv.specs.declared.conditions.Comparison.{Comparison}
@@ -58,7 +58,7 @@ size x = span (layout x) / 8
 
 -- its bytes
 abbrev pub stored : Instruction → ℤ → List ℕ
-stored x i = cond (size x == 2) (two_bytes (word x i)) (four_bytes (word x i))
+stored x i = cond (size x == 2) (to_le_bytes w16 (word x i)) (to_le_bytes w32 (word x i))
 
 -- its immediate runs from minus this number to below it
 abbrev pub reach : Instruction → ℕ

@@ -62,7 +62,7 @@ fn spelling(bytes: &[u8]) -> Option<Spelled>
     ensures { FindsSpelling bytes.now result }
 {
     match *bytes {
-        [a, b] => one(Step::half(u32::from_le_bytes([a, b, 0, 0]))),
+        [a, b] => one(Step::half(u32::from(u16::from_le_bytes([a, b])))),
         [a, b, c, d] => one(Step::whole(u32::from_le_bytes([a, b, c, d]))),
         [a, b, c, d, e, f, g, h] => two(
             Step::whole(u32::from_le_bytes([a, b, c, d])),
