@@ -1,2 +1,1 @@
-pub mod Gathering
 pub mod Spelled

@@ -1,11 +1,11 @@
 -- Fields and the words that are made of them.
-use Rattle.std.specs.Prelude.{◌≡◌, ℕ, suc, ◌+◌, ◌-◌, ◌*◌, ◌/◌, ◌%◌, ◌^◌, ◌<◌, ◌≤◌, List, [], ◌∷◌, length, take, drop, ℤ, pos, negsuc, FitsSigned, slice_index_or, refl}
-use Rattle.std.proofs.Common.{sym, ap, ◌∙◌, subst, lt_of_lt_of_le, mod-eq_of_lt, mul_comm, mul-le-mul_left, arith, pow_mono, Fits, of_z}
+use Rattle.std.specs.Prelude.{◌≡◌, ℕ, suc, ◌+◌, ◌-◌, ◌*◌, ◌/◌, ◌%◌, ◌^◌, ◌<◌, ◌≤◌, List, [], ◌∷◌, ◌++◌, length, take, drop, ℤ, pos, negsuc, FitsSigned, refl}
+use Rattle.std.proofs.Common.{sym, ap, ◌∙◌, subst, lt_of_lt_of_le, mod-eq_of_lt, mul_comm, arith, pow_mono, get_or, of_z}
 use Rattle.std.proofs.Math.Nat.{add-mul-mod_self_right}
 use Rattle.std.specs.Int.Signed.{shr_z}
 use Rattle.std.specs.Int.{w32}
 use Rattle.std.proofs.lemmas.Nat.{div-add-mod', div_below, div-mul-add, mod_below, mul-add-lt, pow-add, pow_pos}
-use Rattle.std.proofs.lemmas.List.{take_all}
+use Rattle.std.proofs.lemmas.List.{take-append-drop, take_more}
 use Rattle.riscv.specs.declared.words.Field.{Field}
 use Rattle.riscv.specs.declared.words.Field.TheVariants.{Bits, Immediate}
 use Rattle.riscv.specs.Words.{Laid, held, number, span, width}
@@ -55,30 +55,30 @@ number_below (f ∷ fs) i =
 pub word_fits : (fs : List Field) (i : ℤ) → Laid fs → number fs i < 2 ^ 32
 word_fits fs i laid = lt_of_lt_of_le (number_below fs i) (pow_mono laid.room)
 
+pub span_append : (ps qs : List Field) → span (ps ++ qs) ≡ span ps + span qs
+span_append [] qs = omega arith
+span_append (p ∷ ps) qs = omega (arith, span_append ps qs)
+
 -- one field more at the end of a word
-module _ (i : ℤ) (total word : ℕ) (f : Field) (fs : List Field) (small : total < 2 ^ 32) (is : total ≡ word * 2 ^ (width f + span fs) + (held i f * 2 ^ span fs + number fs i)) where
-  longer : total ≡ (word * 2 ^ width f + held i f) * 2 ^ span fs + number fs i
-  longer = is ∙ ap (λ x. word * x + (held i f * 2 ^ span fs + number fs i)) (pow-add 2 (width f) (span fs)) ∙ omega arith
+pub number_push : (fs : List Field) (f : Field) (i : ℤ) → number (fs ++ f ∷ []) i ≡ number fs i * 2 ^ width f + held i f
+number_push [] f i = omega arith
+number_push (g ∷ fs) f i =
+    let last : span (f ∷ []) ≡ width f = omega arith in
+    let high : 2 ^ span (fs ++ f ∷ []) ≡ 2 ^ span fs * 2 ^ width f = ap (λ n. 2 ^ n) (span_append fs (f ∷ []) ∙ ap (λ n. span fs + n) last) ∙ pow-add 2 (span fs) (width f) in
+    (λ j. held i g * high j + number_push fs f i j) ∙ omega arith
 
-  longer_fits : word * 2 ^ width f + held i f < 2 ^ 32
-  longer_fits = omega (arith, longer, mul-le-mul_left (word * 2 ^ width f + held i f) (pow_pos (span fs)))
+-- the same, as the program takes the next of the fields
+module _ (i : ℤ) (fields : List Field) (laid : Laid fields) (k : ℕ) where
+  pub next_fits : number (take (k + 1) fields) i < 2 ^ 32
+  next_fits =
+      let parts : span fields ≡ span (take (k + 1) fields) + span (drop (k + 1) fields) = ap span (sym (take-append-drop (k + 1) fields)) ∙ span_append (take (k + 1) fields) (drop (k + 1) fields) in
+      let few : span (take (k + 1) fields) ≤ 32 = omega (arith, parts, laid.room) in
+      lt_of_lt_of_le (number_below (take (k + 1) fields) i) (pow_mono few)
 
--- the word so far, and the fields that go below it
-abbrev pub Step : ℤ → ℕ → ℕ → List Field → Type 0
-Step i total word rest = Fits w32 word × (Laid rest × (total ≡ word * 2 ^ span rest + number rest i))
-
--- the same, as the program takes the next of its fields
-module _ (i : ℤ) (total word w v : ℕ) (small : total < 2 ^ 32) (default : Field) where
-  pub stepped : (rest : List Field) → 0 < length rest → Laid rest → total ≡ word * 2 ^ span rest + number rest i → w ≡ width (slice_index_or rest 0 default) → v ≡ held i (slice_index_or rest 0 default) → Step i total ((word * 2 ^ w) % 2 ^ 32 + v) (take (length rest - 1) (drop 1 rest))
-  stepped [] some laid is iw iv = absurd (omega arith)
-  stepped (f ∷ fs) some laid is iw iv =
-      let at : word * 2 ^ w + v ≡ word * 2 ^ width f + held i f = λ j. word * 2 ^ iw j + iv j in
-      let fits = longer_fits i total word f fs small is in
-      let whole : (word * 2 ^ w) % 2 ^ 32 ≡ word * 2 ^ w = mod-eq_of_lt (omega (arith, at, fits)) in
-      let next : (word * 2 ^ w) % 2 ^ 32 + v ≡ word * 2 ^ width f + held i f = ap (λ n. n + v) whole ∙ at in
-      subst (Step i total ((word * 2 ^ w) % 2 ^ 32 + v)) (sym (take_all (suc (length fs) - 1) fs (omega arith)))
-      (record { fits = omega (arith, next, fits) }, (record { each = laid.each.1; room = omega (arith, laid.room) }, longer i total word f fs small is ∙ ap (λ n. n * 2 ^ span fs + number fs i) (sym next)))
-
-pub ended : (i : ℤ) (total word : ℕ) (rest : List Field) → length rest < 1 → total ≡ word * 2 ^ span rest + number rest i → word ≡ total
-ended i total word [] none is = omega arith
-ended i total word (f ∷ fs) none is = absurd (omega arith)
+  pub next_is : (word w v : ℕ) (default : Field) → k < length fields → word ≡ number (take k fields) i → w ≡ width (get_or fields k default) → v ≡ held i (get_or fields k default) → (word * 2 ^ w) % 2 ^ 32 + v ≡ number (take (k + 1) fields) i
+  next_is word w v default within is iw iv =
+      let f = get_or fields k default in
+      let more : number (take (k + 1) fields) i ≡ number (take k fields) i * 2 ^ width f + held i f = ap (λ fs. number fs i) (take_more fields k default within) ∙ number_push (take k fields) f i in
+      let so : word * 2 ^ w ≡ number (take k fields) i * 2 ^ width f = λ j. is j * 2 ^ iw j in
+      let whole : (word * 2 ^ w) % 2 ^ 32 ≡ word * 2 ^ w = mod-eq_of_lt (omega (arith, so, more, next_fits)) in
+      omega (arith, whole, so, iv, more)

@@ -3,17 +3,26 @@ use Rattle.std.specs.Prelude.{◌≡◌, ℕ, ◌+◌, ◌-◌, ◌*◌, ◌/◌
 use Rattle.std.proofs.Common.{sym, ap, ◌∙◌, subst, append_assoc, mod-eq_of_lt, arith, of_z}
 use Rattle.std.proofs.Math.Nat.{add-mul-div_right, add-mul-mod_self_right}
 use Rattle.std.specs.Int.{w32}
-use Rattle.std.proofs.lemmas.Nat.{mod-pow-add, pow-add, pow_pos, shr_high}
+use Rattle.std.proofs.lemmas.Nat.{mod-pow-add, pow-add, pow_pos, shr_high, shr-shr}
 use Rattle.std.specs.List.{AllByRecursion}
 use Rattle.riscv.specs.declared.words.Field.{Field}
 use Rattle.riscv.specs.declared.words.Field.TheVariants.{Bits, Immediate}
-use Rattle.riscv.specs.Reading.{gathered}
+use Rattle.riscv.specs.Reading.{gathered, placed}
 use Rattle.riscv.specs.Words.{InWord, held, number, span, width}
-use Rattle.riscv.specs.Packing.{held_below, number_below}
+use Rattle.riscv.specs.Packing.{held_below, number_below, span_append}
 
-span_append : (ps qs : List Field) → span (ps ++ qs) ≡ span ps + span qs
-span_append [] qs = omega arith
-span_append (p ∷ ps) qs = omega (arith, span_append ps qs)
+-- what is gathered from a word whose lowest field is the last of these
+pub gathered_push : (fs : List Field) (f : Field) (word : ℕ) → gathered (fs ++ f ∷ []) word ≡ placed f word + gathered fs (word / 2 ^ width f)
+gathered_push [] f word = let all : word / 2 ^ 0 ≡ word = omega arith in omega (arith, ap (placed f) all)
+gathered_push (g ∷ fs) f word =
+    let last : span (f ∷ []) ≡ width f = omega arith in
+    let turned : span (fs ++ f ∷ []) ≡ width f + span fs = omega (arith, span_append fs (f ∷ []), last) in
+    let above : word / 2 ^ span (fs ++ f ∷ []) ≡ word / 2 ^ width f / 2 ^ span fs = ap (λ n. word / 2 ^ n) turned ∙ sym (shr-shr word (width f) (span fs)) in
+    omega (arith, ap (placed g) above, gathered_push fs f word)
+
+-- the same, as the program takes the next of the fields
+pub gathered_next : (total so_far word v : ℕ) (left fs : List Field) (f : Field) → total ≡ so_far + gathered left word → left ≡ fs ++ f ∷ [] → v ≡ placed f word → total ≡ (so_far + v) + gathered fs (word / 2 ^ width f)
+gathered_next total so_far word v left fs f is last iv = omega (arith, is, ap (λ xs. gathered xs word) last, gathered_push fs f word, iv)
 
 -- bits above those that are looked at do not matter
 above : (a m s w n : ℕ) → (a * 2 ^ (m + (w + s)) + n) / 2 ^ s % 2 ^ w ≡ n / 2 ^ s % 2 ^ w

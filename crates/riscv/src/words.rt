@@ -57,28 +57,22 @@ fn pack(fields: &[Field], immediate: i32) -> u32
     ensures { result ≡ number fields.now immediate }
 {
     let mut word = 0;
-    let mut rest = fields;
-    while let [field, tail @ ..] = rest {
+    for field in fields {
         word = (word << field.width()) + field.value(immediate);
-        rest = tail;
     }
     word
 }
 
-// The bits of the immediate in a word of so many bits, each at its place.
-fn gather(fields: &[Field], bits: u32, word: u32) -> u32
+// The bits of the immediate in a word, each at its place.
+fn gather(fields: &[Field], mut word: u32) -> u32
     requires laid { Laid fields.now }
-    requires whole { bits ≡ span fields.now }
     requires small { gathered fields.now word < 2 ^ 32 }
     ensures { result ≡ gathered fields.now word }
 {
     let mut immediate = 0;
-    let mut shift = bits;
-    let mut rest = fields;
-    while let [field, tail @ ..] = rest {
-        shift -= field.width();
-        immediate += field.place(word >> shift);
-        rest = tail;
+    for field in fields.iter().rev() {
+        immediate += field.place(word);
+        word >>= field.width();
     }
     immediate
 }

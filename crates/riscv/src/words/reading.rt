@@ -69,14 +69,14 @@ impl Instruction {
         ensures { result ≡ immediate_of self word }
     {
         let bits = match self {
-            Instruction::CJ => gather(&jump_format(0b101), 16, word),
-            Instruction::CJal => gather(&jump_format(0b001), 16, word),
-            Instruction::CBeqz(first) => gather(&branch_format(0b110, first), 16, word),
-            Instruction::CBnez(first) => gather(&branch_format(0b111, first), 16, word),
-            Instruction::Jal(rd) => gather(&jal(rd), 32, word),
-            Instruction::Branch(comparison) => gather(&branch(comparison), 32, word),
-            Instruction::Auipc(rd) => gather(&auipc(rd), 32, word),
-            Instruction::Jalr(rd, base) => gather(&jalr(rd, base), 32, word),
+            Instruction::CJ => gather(&jump_format(0b101), word),
+            Instruction::CJal => gather(&jump_format(0b001), word),
+            Instruction::CBeqz(first) => gather(&branch_format(0b110, first), word),
+            Instruction::CBnez(first) => gather(&branch_format(0b111, first), word),
+            Instruction::Jal(rd) => gather(&jal(rd), word),
+            Instruction::Branch(comparison) => gather(&branch(comparison), word),
+            Instruction::Auipc(rd) => gather(&auipc(rd), word),
+            Instruction::Jalr(rd, base) => gather(&jalr(rd, base), word),
         };
         signed(bits, self.reach())
     }

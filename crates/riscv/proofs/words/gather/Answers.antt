@@ -1,13 +1,15 @@
 -- Each field goes to its place.
-use Rattle.std.proofs.Common.{rules}
-use Rattle.riscv.proofs.Gathering.{all_taken, in_word, taken}
+use Rattle.std.proofs.Common.{◌^◌, ◌/◌, ap, arith}
+use Rattle.std.specs.Iterator.Adapters.{rev_source}
+use Rattle.std.specs.Slice.Iter.{iter_rest}
+use Rattle.riscv.specs.Reading.{gathered}
+use Rattle.riscv.specs.Telling.{gathered_next}
 use Rattle.riscv.proofs.words.gather.Goals as goal
 
-pub overflow_shr-word : goal.overflow_shr-word
-overflow_shr-word c = in_word _ _ _ _ _ 0 _ c.loop-rest.rest.now (search rules) c.loop-rest.invariant c.width-shift.ensures
+pub overflow_add-immediate : goal.overflow_add-immediate
+overflow_add-immediate c = record { fits = omega (arith, gathered_next _ _ _ _ _ _ _ c.loop-field.invariant c.in-Some.ensures.steps c.place-immediate.ensures, c.requires.small) }
 
-pub loop-rest-preserved : goal.loop-rest-preserved
-loop-rest-preserved c = taken _ _ _ _ _ _ _ c.loop-rest.rest.now (search rules) c.loop-rest.invariant c.width-shift.ensures c.place-immediate.ensures
-
-pub returns : goal.returns
-returns c = all_taken _ _ _ _ c.loop-rest.rest.now (search rules) c.loop-rest.invariant
+pub loop-field-preserved : goal.loop-field-preserved
+loop-field-preserved c =
+    let shifted = ap (λ n. gathered (iter_rest (rev_source c.next.new.self)) (c.loop-field.word / 2 ^ n)) c.width-word.ensures in
+    omega (arith, gathered_next _ _ _ _ _ _ _ c.loop-field.invariant c.in-Some.ensures.steps c.place-immediate.ensures, shifted)

@@ -1,10 +1,9 @@
-use Rattle.std.proofs.Common.{length}
+use Rattle.std.proofs.Common.{◌≡◌, ◌+◌}
+use Rattle.std.specs.Iterator.Adapters.{rev_source}
+use Rattle.std.specs.Slice.Iter.{iter_rest}
 use Rattle.riscv.specs.Reading.{gathered}
-use Rattle.riscv.proofs.Gathering.{Left}
 use Rattle.riscv.proofs.words.gather.Given as goal
 
-abbrev pub invariant-loop-rest : goal.invariant-loop-rest
-invariant-loop-rest l = Left l.word (gathered l.fields l.word) l.immediate l.shift l.rest
-
-abbrev pub decreases-loop-rest : goal.decreases-loop-rest
-decreases-loop-rest l = length l.rest
+-- what is gathered so far, and the fields that are left above it
+abbrev pub invariant-loop-field : goal.invariant-loop-field
+invariant-loop-field l = gathered l.fields l.fn.word ≡ l.immediate + gathered (iter_rest (rev_source l.field-iterator)) l.word

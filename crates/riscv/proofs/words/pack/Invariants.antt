@@ -1,10 +1,7 @@
-use Rattle.std.proofs.Common.{◌≡◌, ◌+◌, ◌*◌, ◌^◌, length}
-use Rattle.riscv.specs.Words.{Laid, number, span}
+use Rattle.std.proofs.Common.{◌≡◌, take}
+use Rattle.riscv.specs.Words.{number}
 use Rattle.riscv.proofs.words.pack.Given as goal
 
--- the word so far, with the fields that are left below it
-abbrev pub invariant-loop-rest : goal.invariant-loop-rest
-invariant-loop-rest l = Laid l.rest × (number l.fields l.immediate ≡ l.word * 2 ^ span l.rest + number l.rest l.immediate)
-
-abbrev pub decreases-loop-rest : goal.decreases-loop-rest
-decreases-loop-rest l = length l.rest
+-- the word that the fields so far make
+abbrev pub invariant-loop-field : goal.invariant-loop-field
+invariant-loop-field l = l.word ≡ number (take l.field-index l.fields) l.immediate
