@@ -1,5 +1,6 @@
 // The instructions that branches are made of, and the words that they are.
 ghost use Rattle.std.specs.Prelude.{◌≡◌};
+ghost use Rattle.std.specs.Fn.{FnOnceReturnsAt, FnOnceTakesAt};
 ghost use Rattle.riscv.specs.declared.words.instructions.Instruction.TheVariants.{Auipc, Branch, Jal, Jalr};
 ghost use Rattle.riscv.specs.Instructions.{branch_format as branch_format_of, jump_format as jump_format_of, layout, reach as reach_of, size as size_of, word as word_of};
 
@@ -20,7 +21,7 @@ pub enum Instruction {
 }
 
 // C.J and C.JAL, by their funct3.
-pub fn jump_format(funct: u32) -> [Field; 10]
+fn jump_format(funct: u32) -> [Field; 10]
     ensures { result ≡ jump_format_of funct }
 {
     [
@@ -38,7 +39,7 @@ pub fn jump_format(funct: u32) -> [Field; 10]
 }
 
 // C.BEQZ and C.BNEZ, by their funct3.
-pub fn branch_format(funct: u32, first: u32) -> [Field; 8]
+fn branch_format(funct: u32, first: u32) -> [Field; 8]
     ensures { result ≡ branch_format_of funct first }
 {
     [
@@ -53,7 +54,7 @@ pub fn branch_format(funct: u32, first: u32) -> [Field; 8]
     ]
 }
 
-pub fn jal(rd: u32) -> [Field; 6]
+fn jal(rd: u32) -> [Field; 6]
     ensures { result ≡ layout (Jal rd) }
 {
     [
@@ -66,7 +67,7 @@ pub fn jal(rd: u32) -> [Field; 6]
     ]
 }
 
-pub fn branch(comparison: Comparison) -> [Field; 8]
+fn branch(comparison: Comparison) -> [Field; 8]
     ensures { result ≡ layout (Branch comparison) }
 {
     [
@@ -81,7 +82,7 @@ pub fn branch(comparison: Comparison) -> [Field; 8]
     ]
 }
 
-pub fn auipc(rd: u32) -> [Field; 3]
+fn auipc(rd: u32) -> [Field; 3]
     ensures { result ≡ layout (Auipc rd) }
 {
     [
@@ -91,7 +92,7 @@ pub fn auipc(rd: u32) -> [Field; 3]
     ]
 }
 
-pub fn jalr(rd: u32, base: u32) -> [Field; 5]
+fn jalr(rd: u32, base: u32) -> [Field; 5]
     ensures { result ≡ layout (Jalr rd base) }
 {
     [
@@ -131,20 +132,28 @@ impl Instruction {
         }
     }
 
+    // What `f` makes of its fields.
+    pub fn with_layout<F: FnOnce(&[Field]) -> u32>(self, f: F) -> u32
+        requires { FnOnceTakesAt F.FnOnce f (layout self) }
+        ensures { FnOnceReturnsAt F.FnOnce f (layout self) result }
+    {
+        match self {
+            Instruction::CJ => f(&jump_format(0b101)),
+            Instruction::CJal => f(&jump_format(0b001)),
+            Instruction::CBeqz(first) => f(&branch_format(0b110, first)),
+            Instruction::CBnez(first) => f(&branch_format(0b111, first)),
+            Instruction::Jal(rd) => f(&jal(rd)),
+            Instruction::Branch(comparison) => f(&branch(comparison)),
+            Instruction::Auipc(rd) => f(&auipc(rd)),
+            Instruction::Jalr(rd, base) => f(&jalr(rd, base)),
+        }
+    }
+
     // The instruction with an immediate, as one number.
     pub fn word(self, immediate: i32) -> u32
         ensures { result ≡ word_of self immediate }
     {
-        match self {
-            Instruction::CJ => pack(&jump_format(0b101), immediate),
-            Instruction::CJal => pack(&jump_format(0b001), immediate),
-            Instruction::CBeqz(first) => pack(&branch_format(0b110, first), immediate),
-            Instruction::CBnez(first) => pack(&branch_format(0b111, first), immediate),
-            Instruction::Jal(rd) => pack(&jal(rd), immediate),
-            Instruction::Branch(comparison) => pack(&branch(comparison), immediate),
-            Instruction::Auipc(rd) => pack(&auipc(rd), immediate),
-            Instruction::Jalr(rd, base) => pack(&jalr(rd, base), immediate),
-        }
+        self.with_layout(|fields| pack(fields, immediate))
     }
 }
 

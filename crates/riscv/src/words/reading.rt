@@ -5,9 +5,7 @@ ghost use Rattle.riscv.specs.Reading.{cut as cut_of, half as half_of, immediate 
 
 use super::gather;
 use crate::conditions::{Comparison, Condition};
-use crate::words::instructions::{
-    Instruction, Step, auipc, branch, branch_format, jal, jalr, jump_format,
-};
+use crate::words::instructions::{Instruction, Step};
 
 // The bits of a word from a high one to a low one.
 fn cut(word: u32, high: u32, low: u32) -> u32
@@ -68,16 +66,7 @@ impl Instruction {
     fn immediate(self, word: u32) -> i32
         ensures { result ≡ immediate_of self word }
     {
-        let bits = match self {
-            Instruction::CJ => gather(&jump_format(0b101), word),
-            Instruction::CJal => gather(&jump_format(0b001), word),
-            Instruction::CBeqz(first) => gather(&branch_format(0b110, first), word),
-            Instruction::CBnez(first) => gather(&branch_format(0b111, first), word),
-            Instruction::Jal(rd) => gather(&jal(rd), word),
-            Instruction::Branch(comparison) => gather(&branch(comparison), word),
-            Instruction::Auipc(rd) => gather(&auipc(rd), word),
-            Instruction::Jalr(rd, base) => gather(&jalr(rd, base), word),
-        };
+        let bits = self.with_layout(|fields| gather(fields, word));
         signed(bits, self.reach())
     }
 }
