@@ -3,15 +3,15 @@ ghost use Rattle.std.specs.Prelude.{◌≡◌};
 ghost use Rattle.riscv.specs.Instructions.{funct3 as funct3_of, inverse as inverse_of, inverted};
 ghost use Rattle.riscv.specs.Reading.{condition as condition_of};
 
-// What is asked of the two registers, by the mnemonic that asks it.
+// What is asked of the two registers, by the mnemonic that asks it, with its funct3.
 #[derive(Clone, Copy)]
 pub enum Condition {
-    Beq,
-    Bne,
-    Blt,
-    Bge,
-    Bltu,
-    Bgeu,
+    Beq = 0,
+    Bne = 1,
+    Blt = 4,
+    Bge = 5,
+    Bltu = 6,
+    Bgeu = 7,
 }
 
 impl Condition {
@@ -19,17 +19,10 @@ impl Condition {
     pub fn funct3(self) -> u32
         ensures { result ≡ funct3_of self }
     {
-        match self {
-            Condition::Beq => 0,
-            Condition::Bne => 1,
-            Condition::Blt => 4,
-            Condition::Bge => 5,
-            Condition::Bltu => 6,
-            Condition::Bgeu => 7,
-        }
+        self as u32
     }
 
-    // The condition with this funct3.
+    // The condition with this funct3: no `TryFrom`, since it has another number too, its place among the kinds.
     pub fn of(funct3: u32) -> Option<Condition>
         ensures { result ≡ condition_of funct3 }
     {
