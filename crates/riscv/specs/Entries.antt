@@ -12,8 +12,11 @@ use Rattle.riscv.specs.declared.conditions.Condition.TheVariants.{Beq, Bne, Blt,
 use Rattle.riscv.specs.declared.words.instructions.Instruction.TheVariants.{CJ, CJal, CBeqz, CBnez, Jal, Branch, Auipc, Jalr}
 use Rattle.riscv.specs.Encodings.{both, comparison, compressed, conditional, encodings, table}
 use Rattle.riscv.specs.Recovering.{Registers, bottom}
+use Rattle.riscv.specs.declared.kinds.Kind.{Kind}
+use Rattle.riscv.specs.declared.kinds.Kind.TheVariants.{J, Call, Conditional}
+use Rattle.riscv.specs.Finding.{kind}
 
--- the kind and the form that an encoding is of, where it is of any
+-- the number of a kind
 abbrev place : Condition → ℕ
 place Beq = 0
 place Bne = 1
@@ -22,17 +25,23 @@ place Bge = 3
 place Bltu = 4
 place Bgeu = 5
 
-abbrev kind_of : Encoding → ℕ
-kind_of (One CJ) = 0
-kind_of (One CJal) = 1
-kind_of (One (CBeqz first)) = 4096 + 32 * first
-kind_of (One (CBnez first)) = 5120 + 32 * first
-kind_of (One (Jal rd)) = rd
-kind_of (One (Branch c)) = 4096 + 1024 * place c.condition + 32 * c.first + c.second
-kind_of (One (Auipc rd)) = 0
-kind_of (One (Jalr rd base)) = 0
-kind_of (Far link through) = link
-kind_of (Long c) = 4096 + 1024 * place c.condition + 32 * c.first + c.second
+abbrev number_of : Kind → ℕ
+number_of J = 0
+number_of Call = 1
+number_of (Conditional c) = 4096 + 1024 * place c.condition + 32 * c.first + c.second
+
+-- the kind and the form that an encoding is of, where it is of any
+abbrev pub kind_of : Encoding → Kind
+kind_of (One CJ) = J
+kind_of (One CJal) = Call
+kind_of (One (CBeqz first)) = Conditional (record { condition = Beq; first = first; second = 0 })
+kind_of (One (CBnez first)) = Conditional (record { condition = Bne; first = first; second = 0 })
+kind_of (One (Jal rd)) = cond (rd == 0) J Call
+kind_of (One (Branch c)) = Conditional c
+kind_of (One (Auipc rd)) = J
+kind_of (One (Jalr rd base)) = J
+kind_of (Far link through) = cond (link == 0) J Call
+kind_of (Long c) = Conditional c
 
 abbrev form_of : Encoding → ℕ
 form_of (One CJ) = 0
@@ -46,43 +55,59 @@ form_of (One (Jalr rd base)) = 0
 form_of (Far link through) = 2
 form_of (Long c) = 1 + of_form 0 (λ x. 1) (compressed c)
 
--- a kind by its condition and registers
-numbered : (k : ℕ) (c : Comparison) → comparison k ≡ Some c → k ≡ 4096 + 1024 * place c.condition + 32 * c.first + c.second
-numbered k c is = grind (arith, nat_tests)
+-- a number by its kind
+numbered : (k : ℕ) (of : Kind) → kind k ≡ Some of → k ≡ number_of of
+numbered k J is = grind (arith, nat_tests)
+numbered k Call is = grind (arith, nat_tests)
+numbered k (Conditional c) is = grind (arith, nat_tests)
 
+-- the encodings of a kind that is a condition
 no_jump : (k : ℕ) (j call rest : List Encoding) → 4096 ≤ k → cond (k == 0) j (cond (k == 1) call rest) ≡ rest
 no_jump k j call rest large = grind (arith, nat_tests)
 
--- the encodings of a kind that is a condition
-of_condition : (k : ℕ) (c : Comparison) → comparison k ≡ Some c → encodings k ≡ both c (compressed c)
-of_condition k c is = no_jump k _ _ (conditional (comparison k)) (omega (arith, numbered k c is)) ∙ ap conditional is
+compares : (k : ℕ) (c : Comparison) → kind k ≡ Some (Conditional c) → comparison k ≡ Some c
+compares k c is = grind (arith, nat_tests)
 
-compares : (k f : ℕ) (c : Comparison) → encoding table k f ≡ Some (One (Branch c)) → comparison k ≡ Some c
-compares k f c is = grind (arith, nat_tests)
+of_condition : (k : ℕ) (c : Comparison) → kind k ≡ Some (Conditional c) → encodings k ≡ both c (compressed c)
+of_condition k c is = no_jump k _ _ (conditional (comparison k)) (omega (arith, numbered k (Conditional c) is)) ∙ ap conditional (compares k c is)
 
-compares_long : (k f : ℕ) (c : Comparison) → encoding table k f ≡ Some (Long c) → comparison k ≡ Some c
-compares_long k f c is = grind (arith, nat_tests)
+-- the kind and the form of an encoding
+module _ (k f : ℕ) where
+  pub kind_is : (e : Encoding) → encoding table k f ≡ Some e → kind k ≡ Some (kind_of e)
+  kind_is (One CJ) is = grind (arith, nat_tests)
+  kind_is (One CJal) is = grind (arith, nat_tests)
+  kind_is (One (CBeqz first)) is = grind (arith, nat_tests)
+  kind_is (One (CBnez first)) is = grind (arith, nat_tests)
+  kind_is (One (Jal rd)) is = grind (arith, nat_tests)
+  kind_is (One (Branch c)) is = grind (arith, nat_tests)
+  kind_is (One (Auipc rd)) is = absurd (grind (arith, nat_tests))
+  kind_is (One (Jalr rd base)) is = absurd (grind (arith, nat_tests))
+  kind_is (Far link through) is = grind (arith, nat_tests)
+  kind_is (Long c) is = grind (arith, nat_tests)
 
-own_form_lem : (f : ℕ) (c : Comparison) → slice_get (both c (compressed c)) f ≡ Some (One (Branch c)) → f ≡ of_form 0 (λ x. 1) (compressed c)
-own_form_lem f c is = grind (arith, nat_tests)
+  own_form_lem : (c : Comparison) → slice_get (both c (compressed c)) f ≡ Some (One (Branch c)) → f ≡ of_form 0 (λ x. 1) (compressed c)
+  own_form_lem c is = grind (arith, nat_tests)
 
-long_form : (f : ℕ) (c : Comparison) → slice_get (both c (compressed c)) f ≡ Some (Long c) → f ≡ 1 + of_form 0 (λ x. 1) (compressed c)
-long_form f c is = grind (arith, nat_tests)
+  long_form : (c : Comparison) → slice_get (both c (compressed c)) f ≡ Some (Long c) → f ≡ 1 + of_form 0 (λ x. 1) (compressed c)
+  long_form c is = grind (arith, nat_tests)
 
-entered : (k f : ℕ) (e : Encoding) → encoding table k f ≡ Some e → (k ≡ kind_of e) × (f ≡ form_of e)
-entered k f (One CJ) is = (grind (arith, nat_tests), grind (arith, nat_tests))
-entered k f (One CJal) is = (grind (arith, nat_tests), grind (arith, nat_tests))
-entered k f (One (CBeqz first)) is = (grind (arith, nat_tests), grind (arith, nat_tests))
-entered k f (One (CBnez first)) is = (grind (arith, nat_tests), grind (arith, nat_tests))
-entered k f (One (Jal rd)) is = (grind (arith, nat_tests), grind (arith, nat_tests))
-entered k f (One (Branch c)) is = let by = compares k f c is in (numbered k c by, own_form_lem f c (ap (λ es. slice_get es f) (sym (of_condition k c by)) ∙ is))
-entered k f (One (Auipc rd)) is = absurd (grind (arith, nat_tests))
-entered k f (One (Jalr rd base)) is = absurd (grind (arith, nat_tests))
-entered k f (Far link through) is = (grind (arith, nat_tests), grind (arith, nat_tests))
-entered k f (Long c) is = let by = compares_long k f c is in (numbered k c by, long_form f c (ap (λ es. slice_get es f) (sym (of_condition k c by)) ∙ is))
+  form_is : (e : Encoding) → encoding table k f ≡ Some e → f ≡ form_of e
+  form_is (One CJ) is = grind (arith, nat_tests)
+  form_is (One CJal) is = grind (arith, nat_tests)
+  form_is (One (CBeqz first)) is = grind (arith, nat_tests)
+  form_is (One (CBnez first)) is = grind (arith, nat_tests)
+  form_is (One (Jal rd)) is = grind (arith, nat_tests)
+  form_is (One (Branch c)) is = own_form_lem c (ap (λ es. slice_get es f) (sym (of_condition k c (kind_is (One (Branch c)) is))) ∙ is)
+  form_is (One (Auipc rd)) is = absurd (grind (arith, nat_tests))
+  form_is (One (Jalr rd base)) is = absurd (grind (arith, nat_tests))
+  form_is (Far link through) is = grind (arith, nat_tests)
+  form_is (Long c) is = long_form c (ap (λ es. slice_get es f) (sym (of_condition k c (kind_is (Long c) is))) ∙ is)
+
+  number_is : (e : Encoding) → encoding table k f ≡ Some e → k ≡ number_of (kind_of e)
+  number_is e is = numbered k (kind_of e) (kind_is e is)
 
 pub entries_apart : (k k' f f' : ℕ) (e : Encoding) → encoding table k f ≡ Some e → encoding table k' f' ≡ Some e → (k ≡ k') × (f ≡ f')
-entries_apart k k' f f' e is is' = let here = entered k f e is in let there = entered k' f' e is' in (here.0 ∙ sym there.0, here.1 ∙ sym there.1)
+entries_apart k k' f f' e is is' = (number_is k f e is ∙ sym (number_is k' f' e is'), form_is k f e is ∙ sym (form_is k' f' e is'))
 
 -- registers that there are, in instructions whose immediate is a distance
 abbrev pub Sound : Encoding → Type 0

@@ -1,26 +1,36 @@
--- What reading looks for: the one kind, form and distance that bytes can be. Whether they are is found by writing that again.
-use Rattle.std.specs.Prelude.{◌≡◌, ℕ, List, [], ◌∷◌, ℤ, pos, ◌-ℤ◌, ◌≤ℤ◌, Some, None, Option}
-use Rattle.target.specs.declared.interface.Branch.{Branch}
+-- What reading looks for: the encoding and distance that bytes spell, and the kind and form of an encoding.
+use Rattle.std.specs.Prelude.{◌≡◌, ℕ, cond, List, [], ◌∷◌, ℤ, pos, ◌-ℤ◌, ◌≤ℤ◌, Some, None, Option, ◌==◌, ◌≢◌}
 use Rattle.target.specs.Meaning.{highest, lowest}
-use Rattle.target.specs.Refusals.{Means}
-use Rattle.target.specs.Table.{Spells, encoding}
+use Rattle.target.specs.Table.{Spells, Unlisted, encoding}
 use Rattle.riscv.specs.declared.encodings.Encoding.{Encoding}
 use Rattle.riscv.specs.declared.encodings.Encoding.TheVariants.{One}
 use Rattle.riscv.specs.declared.encodings.Entry.{Entry}
 use Rattle.riscv.specs.declared.conditions.Comparison.{Comparison}
+use Rattle.riscv.specs.declared.kinds.Kind.{Kind}
+use Rattle.riscv.specs.declared.kinds.Kind.TheVariants.{J, Call, Conditional}
 use Rattle.riscv.specs.declared.words.instructions.Instruction.{Instruction}
 use Rattle.riscv.specs.declared.words.instructions.Step.{Step}
 use Rattle.riscv.specs.declared.finding.Spelled.{Spelled}
-use Rattle.riscv.specs.Encodings.{comparison, instructions, lower, riscv, table, upper}
+use Rattle.riscv.specs.Encodings.{comparison, instructions, lower, table, upper}
 use Rattle.riscv.specs.Reading.{immediate}
 
--- the kind that is this condition over registers, if any is
-abbrev pub FindsKind : Comparison → Option ℕ → Type 0
-FindsKind c found = (kind : ℕ) → comparison kind ≡ Some c → found ≡ Some kind
+-- the kind that a number stands for
+abbrev pub over_registers : Option Comparison → Option Kind
+over_registers None = None
+over_registers (Some c) = Some (Conditional c)
 
--- the kind and form that have this encoding, if any have
-abbrev pub FindsEntry : Encoding → Option Entry → Type 0
-FindsEntry e found = (kind form : ℕ) → encoding table kind form ≡ Some e → found ≡ Some (record { kind = kind; form = form })
+abbrev pub kind : ℕ → Option Kind
+kind number = cond (number == 0) (Some J) (cond (number == 1) (Some Call) (over_registers (comparison number)))
+
+-- the number of a kind, or that it has none
+abbrev pub Numbered : Kind → Option ℕ → Type 0
+Numbered k None = (number : ℕ) → kind number ≢ Some k
+Numbered k (Some number) = kind number ≡ Some k
+
+-- the kind and form that have this encoding, or that none have
+abbrev pub Entered : Encoding → Option Entry → Type 0
+Entered e None = Unlisted table e
+Entered e (Some entry) = encoding table entry.kind entry.form ≡ Some e
 
 -- the encoding and distance that these bytes spell, if any of a kind do
 abbrev pub FindsSpelling : List ℕ → Option Spelled → Type 0
@@ -47,6 +57,7 @@ alone (Some s) = Some (record { encoding = One s.instruction; distance = s.immed
 abbrev pub FindsPair : Option Step → Option Step → Option Spelled → Type 0
 FindsPair first second found = (s t : Step) (e : Encoding) (d : ℤ) → first ≡ Some s → second ≡ Some t → instructions e d ≡ s ∷ t ∷ [] → lowest ≤ℤ d → d ≤ℤ highest → found ≡ Some (record { encoding = e; distance = d })
 
--- the branch whose bytes these are, if they are those of any
-abbrev pub FindsBranch : List ℕ → Option Branch → Type 0
-FindsBranch bytes found = (branch : Branch) → Means riscv bytes branch → found ≡ Some branch
+-- the encoding and the distance that these bytes spell, or that none of a kind does; an encoding of a kind that spells them is the one that is found
+abbrev pub Decoded : List ℕ → Option Spelled → Type 0
+Decoded bytes None = (kind form : ℕ) (e : Encoding) (d : ℤ) → encoding table kind form ≡ Some e → Spells table bytes e d → ⊥
+Decoded bytes (Some s) = Spells table bytes s.encoding s.distance × ((kind form : ℕ) (e : Encoding) (d : ℤ) → encoding table kind form ≡ Some e → Spells table bytes e d → e ≡ s.encoding)

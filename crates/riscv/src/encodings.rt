@@ -2,19 +2,13 @@
 ghost use Rattle.std.specs.Prelude.{◌≡◌, length, MatchBool};
 ghost use Rattle.std.specs.List.{slice_get};
 ghost use Rattle.target.specs.Table.{Takes, encoding, of_form};
-ghost use Rattle.riscv.specs.Encodings.{both, comparison as comparison_of, compressed as compressed_of, encodings, high as high_of, low as low_of, size as size_of, table};
-ghost use Rattle.riscv.specs.Finding.{FindsEntry, FindsKind};
+ghost use Rattle.riscv.specs.Encodings.{both, compressed as compressed_of, encodings, high as high_of, low as low_of, size as size_of, table};
+ghost use Rattle.riscv.specs.Finding.{Entered};
+ghost use Rattle.riscv.specs.declared.kinds.Kind.TheVariants.{Conditional};
 
 use crate::conditions::{Comparison, Condition};
+use crate::kinds::Kind;
 use crate::words::instructions::Instruction;
-
-// The kinds before the conditions.
-const J: u32 = 0;
-
-const CALL: u32 = 1;
-
-// The kind of beq with x0 and x0.
-const FIRST_CONDITION: u32 = 4096;
 
 // How a branch is made of instructions.
 #[derive(Clone, Copy)]
@@ -34,27 +28,6 @@ pub struct Entry {
     pub form: u32,
 }
 
-// The condition over registers that a kind is.
-fn comparison(kind: u32) -> Option<Comparison>
-    ensures { result ≡ comparison_of kind }
-{
-    let number = kind.checked_sub(FIRST_CONDITION)?;
-    let condition = match number / 1024 {
-        0 => Condition::Beq,
-        1 => Condition::Bne,
-        2 => Condition::Blt,
-        3 => Condition::Bge,
-        4 => Condition::Bltu,
-        5 => Condition::Bgeu,
-        _ => return None,
-    };
-    Some(Comparison {
-        condition,
-        first: number / 32 % 32,
-        second: number % 32,
-    })
-}
-
 // The 16-bit instruction for a condition, which knows x8 to x15 against x0 only.
 fn compressed(comparison: Comparison) -> Option<Instruction>
     ensures { result ≡ compressed_of comparison }
@@ -66,34 +39,15 @@ fn compressed(comparison: Comparison) -> Option<Instruction>
     }
 }
 
-// The kind of a condition over registers.
-fn kind(comparison: Comparison) -> Option<u32>
-    ensures { FindsKind comparison result }
+// The condition that a register compares with x0.
+fn against_zero(condition: Condition, first: u32) -> Kind
+    ensures { result ≡ Conditional (record { condition = condition; first = first; second = 0 }) }
 {
-    let number = match comparison.condition {
-        Condition::Beq => 0,
-        Condition::Bne => 1,
-        Condition::Blt => 2,
-        Condition::Bge => 3,
-        Condition::Bltu => 4,
-        Condition::Bgeu => 5,
-    };
-    if comparison.first < 32 && comparison.second < 32 {
-        Some(FIRST_CONDITION + 1024 * number + 32 * comparison.first + comparison.second)
-    } else {
-        None
-    }
-}
-
-// A register compared with x0.
-fn against_zero(condition: Condition, first: u32) -> Comparison
-    ensures { result ≡ record { condition = condition; first = first; second = 0 } }
-{
-    Comparison {
+    Kind::Conditional(Comparison {
         condition,
         first,
         second: 0,
-    }
+    })
 }
 
 // The form of a condition's own branch: after the 16-bit one, where there is one.
@@ -110,12 +64,10 @@ fn own_form(comparison: Comparison) -> u32
 pub fn forms(kind: u32) -> u32
     ensures { result ≡ length (encodings kind) }
 {
-    match kind {
-        J | CALL => 3,
-        _ => match comparison(kind) {
-            Some(comparison) => own_form(comparison) + 2,
-            None => 0,
-        },
+    match Kind::of(kind) {
+        Some(Kind::J | Kind::Call) => 3,
+        Some(Kind::Conditional(comparison)) => own_form(comparison) + 2,
+        None => 0,
     }
 }
 
@@ -136,15 +88,15 @@ impl Encoding {
     pub fn of(kind: u32, form: u32) -> Option<Encoding>
         ensures { result ≡ encoding table kind form }
     {
-        match (kind, form) {
-            (J, 0) => Some(Encoding::One(Instruction::CJ)),
-            (J, 1) => Some(Encoding::One(Instruction::Jal(0))),
-            (J, 2) => Some(Encoding::Far(0, 6)),
-            (CALL, 0) => Some(Encoding::One(Instruction::CJal)),
-            (CALL, 1) => Some(Encoding::One(Instruction::Jal(1))),
-            (CALL, 2) => Some(Encoding::Far(1, 1)),
-            (J | CALL, _) => None,
-            _ => conditional(comparison(kind)?, form),
+        match (Kind::of(kind)?, form) {
+            (Kind::J, 0) => Some(Encoding::One(Instruction::CJ)),
+            (Kind::J, 1) => Some(Encoding::One(Instruction::Jal(0))),
+            (Kind::J, 2) => Some(Encoding::Far(0, 6)),
+            (Kind::Call, 0) => Some(Encoding::One(Instruction::CJal)),
+            (Kind::Call, 1) => Some(Encoding::One(Instruction::Jal(1))),
+            (Kind::Call, 2) => Some(Encoding::Far(1, 1)),
+            (Kind::J | Kind::Call, _) => None,
+            (Kind::Conditional(comparison), _) => conditional(comparison, form),
         }
     }
 
@@ -189,30 +141,33 @@ impl Encoding {
 
     // The kind and form that have it.
     pub fn entry(self) -> Option<Entry>
-        ensures { FindsEntry self result }
+        ensures { Entered self result }
     {
         let (kind, form) = match self {
-            Encoding::One(Instruction::CJ) => (J, 0),
-            Encoding::One(Instruction::Jal(0)) => (J, 1),
-            Encoding::Far(0, _) => (J, 2),
-            Encoding::One(Instruction::CJal) => (CALL, 0),
-            Encoding::One(Instruction::Jal(1)) => (CALL, 1),
-            Encoding::Far(1, _) => (CALL, 2),
-            Encoding::One(Instruction::CBeqz(first)) => (
-                kind(against_zero(Condition::Beq, first))?,
+            Encoding::One(Instruction::CJ) => (Kind::J, 0),
+            Encoding::One(Instruction::Jal(0)) => (Kind::J, 1),
+            Encoding::Far(0, 6) => (Kind::J, 2),
+            Encoding::One(Instruction::CJal) => (Kind::Call, 0),
+            Encoding::One(Instruction::Jal(1)) => (Kind::Call, 1),
+            Encoding::Far(1, 1) => (Kind::Call, 2),
+            Encoding::One(Instruction::CBeqz(first @ 8..=15)) => (
+                against_zero(Condition::Beq, first),
                 0,
             ),
-            Encoding::One(Instruction::CBnez(first)) => (
-                kind(against_zero(Condition::Bne, first))?,
+            Encoding::One(Instruction::CBnez(first @ 8..=15)) => (
+                against_zero(Condition::Bne, first),
                 0,
             ),
             Encoding::One(Instruction::Branch(comparison)) => (
-                kind(comparison)?,
+                Kind::Conditional(comparison),
                 own_form(comparison),
             ),
-            Encoding::Long(comparison) => (kind(comparison)?, own_form(comparison) + 1),
+            Encoding::Long(comparison) => (Kind::Conditional(comparison), own_form(comparison) + 1),
             _ => return None,
         };
-        Some(Entry { kind, form })
+        Some(Entry {
+            kind: kind.number()?,
+            form,
+        })
     }
 }

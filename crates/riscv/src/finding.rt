@@ -1,10 +1,12 @@
-// The one branch that bytes can be. Whether they are that branch is found by writing it again.
-ghost use Rattle.std.specs.Prelude.{◌≡◌};
-ghost use Rattle.riscv.specs.Finding.{FindsBranch, FindsFar, FindsLong, FindsPair, FindsSpelling, alone};
+// The one encoding and distance that bytes can spell. Whether they do is found by writing that again.
+ghost use Rattle.std.specs.Prelude.{◌≡◌, Decides};
+ghost use Rattle.target.specs.Table.{Spells};
+ghost use Rattle.riscv.specs.Encodings.{table};
+ghost use Rattle.riscv.specs.Finding.{Decoded, FindsFar, FindsLong, FindsPair, FindsSpelling, alone};
 
 use crate::encodings::Encoding;
+use crate::layout::put;
 use crate::words::instructions::{Instruction, Step};
-use target::Branch;
 
 // An encoding, and the distance that it branches over.
 #[derive(Clone, Copy)]
@@ -72,15 +74,26 @@ fn spelling(bytes: &[u8]) -> Option<Spelled>
     }
 }
 
-// The branch whose bytes these are, if they are those of any.
-pub fn find(bytes: &[u8]) -> Option<Branch>
-    ensures { FindsBranch bytes.now result }
+// Whether these are the bytes of an encoding and a distance: they are written and compared.
+fn spells(found: Spelled, bytes: &[u8]) -> bool
+    ensures { Decides result (Spells table bytes.now found.encoding found.distance) }
+{
+    if !found.encoding.takes(found.distance) {
+        return false;
+    }
+    let mut row = [0; 8];
+    put(found.encoding, found.distance, &mut row);
+    row[..found.encoding.size() as usize] == bytes[..]
+}
+
+// The encoding and distance whose bytes these are.
+pub fn decode(bytes: &[u8]) -> Option<Spelled>
+    ensures { Decoded bytes.now result }
 {
     let found = spelling(bytes)?;
-    let entry = found.encoding.entry()?;
-    Some(Branch {
-        kind: entry.kind,
-        form: entry.form,
-        distance: found.distance,
-    })
+    if spells(found, bytes) {
+        Some(found)
+    } else {
+        None
+    }
 }

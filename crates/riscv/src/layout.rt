@@ -56,7 +56,7 @@ fn put_two(first: Step, second: Step, out: &mut [u8])
 }
 
 // Puts the branch at the front of `out`.
-fn put(encoding: Encoding, distance: i32, out: &mut [u8])
+pub fn put(encoding: Encoding, distance: i32, out: &mut [u8])
     requires takes { Takes table encoding distance }
     requires room { size_of encoding ≤ length out.old }
     ensures { out.new ≡ bytes encoding distance ++ drop (size_of encoding) out.old }

@@ -1,8 +1,6 @@
 // RV32I with the C extension as a target.
 #![tactic(auto)]
 
-ghost use Rattle.std.specs.Prelude.{Decides};
-ghost use Rattle.target.specs.Refusals.{Means};
 ghost use Rattle.riscv.specs.Encodings.{riscv, table};
 ghost use Rattle.target.proofs.Tables.{listed_lawful};
 ghost use Rattle.riscv.specs.Laws.{laws};
@@ -12,6 +10,7 @@ use target::{Branch, Target, WriteFault};
 mod conditions;
 mod encodings;
 mod finding;
+mod kinds;
 mod layout;
 #[cfg(test)]
 mod tests;
@@ -67,22 +66,12 @@ impl Target for Riscv {
     }
 
     fn read(&self, bytes: &[u8]) -> Option<Branch> {
-        let branch = finding::find(bytes)?;
-        if means(self, branch, bytes) {
-            Some(branch)
-        } else {
-            None
-        }
-    }
-}
-
-// Whether these are the bytes of a branch: it is written and compared.
-fn means(target: &Riscv, branch: Branch, bytes: &[u8]) -> bool
-    ensures { Decides result (Means riscv bytes.now branch) }
-{
-    let mut row = [0; 8];
-    match target.write(branch.kind, branch.form, branch.distance, &mut row) {
-        Ok(()) => row[..target.size(branch.kind, branch.form) as usize] == bytes[..],
-        Err(_) => false,
+        let found = finding::decode(bytes)?;
+        let entry = found.encoding.entry()?;
+        Some(Branch {
+            kind: entry.kind,
+            form: entry.form,
+            distance: found.distance,
+        })
     }
 }

@@ -1,0 +1,96 @@
+// The kinds of branch, and the numbers that they have.
+ghost use Rattle.std.specs.Prelude.{◌≡◌};
+ghost use Rattle.std.specs.List.{slice_get};
+ghost use Rattle.riscv.specs.declared.kinds.Kind.TheVariants.{Conditional};
+ghost use Rattle.riscv.specs.Encodings.{comparison as comparison_of, conditions};
+ghost use Rattle.riscv.specs.Finding.{Numbered, kind};
+
+use crate::conditions::{Comparison, Condition};
+
+// What a branch does.
+#[derive(Clone, Copy)]
+pub enum Kind {
+    J,
+    Call,
+    // it branches where this holds
+    Conditional(Comparison),
+}
+
+// The number of beq with x0 and x0.
+const FIRST_CONDITION: u32 = 4096;
+
+// The conditions, in the order of their kinds.
+const CONDITIONS: [Condition; 6] = [
+    Condition::Beq,
+    Condition::Bne,
+    Condition::Blt,
+    Condition::Bge,
+    Condition::Bltu,
+    Condition::Bgeu,
+];
+
+// The condition over registers that a number stands for.
+fn comparison(number: u32) -> Option<Comparison>
+    ensures { result ≡ comparison_of number }
+{
+    let number = number.checked_sub(FIRST_CONDITION)?;
+    Some(Comparison {
+        condition: *CONDITIONS.get((number / 1024) as usize)?,
+        first: number / 32 % 32,
+        second: number % 32,
+    })
+}
+
+// The place of a condition among them.
+fn place(condition: Condition) -> u32
+    ensures { slice_get conditions result ≡ Some condition }
+{
+    match condition {
+        Condition::Beq => 0,
+        Condition::Bne => 1,
+        Condition::Blt => 2,
+        Condition::Bge => 3,
+        Condition::Bltu => 4,
+        Condition::Bgeu => 5,
+    }
+}
+
+// The number that stands for a condition over registers.
+fn number(comparison: Comparison) -> Option<u32>
+    ensures { Numbered (Conditional comparison) result }
+{
+    let Comparison {
+        condition,
+        first,
+        second,
+    } = comparison;
+    if first < 32 && second < 32 {
+        Some(FIRST_CONDITION + 1024 * place(condition) + 32 * first + second)
+    } else {
+        None
+    }
+}
+
+impl Kind {
+    // The kind with this number: no `TryFrom` and `From`, since a kind with a register past x31 has none.
+    pub fn of(number: u32) -> Option<Kind>
+        ensures { result ≡ kind number }
+    {
+        match number {
+            0 => Some(Kind::J),
+            1 => Some(Kind::Call),
+            _ => comparison(number).map(Kind::Conditional),
+        }
+    }
+
+    // Its number, if it has one.
+    pub fn number(self) -> Option<u32>
+        ensures { Numbered self result }
+    {
+        match self {
+            Kind::J => Some(0),
+            Kind::Call => Some(1),
+            Kind::Conditional(comparison) => number(comparison),
+        }
+    }
+}
