@@ -1,5 +1,6 @@
 // Instruction words as lists of fields, highest bits first.
 ghost use Rattle.std.specs.Prelude.{◌≡◌, ◌^◌, ◌<◌};
+ghost use Rattle.riscv.specs.declared.words.Field.TheVariants.{Bits, Immediate};
 ghost use Rattle.riscv.specs.Reading.{gathered, placed};
 ghost use Rattle.riscv.specs.Words.{InWord, Laid, held, number, span, width as width_of};
 
@@ -10,9 +11,22 @@ pub mod reading;
 #[derive(Clone, Copy)]
 pub enum Field {
     // so many bits, which hold this number
-    Bits(u32, u32),
+    Bits { count: u32, number: u32 },
     // the bits of the immediate from a high one to a low one
-    Immediate(u32, u32),
+    Immediate { high: u32, low: u32 },
+}
+
+// The fields as the manual's formats write them: this many bits with this number, and imm[high:low].
+fn bits(count: u32, number: u32) -> Field
+    ensures { result ≡ Bits count number }
+{
+    Field::Bits { count, number }
+}
+
+fn imm(high: u32, low: u32) -> Field
+    ensures { result ≡ Immediate high low }
+{
+    Field::Immediate { high, low }
 }
 
 impl Field {
@@ -22,8 +36,8 @@ impl Field {
         ensures { result ≡ width_of self }
     {
         match self {
-            Field::Bits(count, _) => count,
-            Field::Immediate(high, low) => 1 + high - low,
+            Field::Bits { count, .. } => count,
+            Field::Immediate { high, low } => 1 + high - low,
         }
     }
 
@@ -33,8 +47,8 @@ impl Field {
         ensures { result ≡ held immediate self }
     {
         match self {
-            Field::Bits(count, number) => number % (1 << count),
-            Field::Immediate(high, low) => (immediate >> low).cast_unsigned()
+            Field::Bits { count, number } => number % (1 << count),
+            Field::Immediate { high, low } => (immediate >> low).cast_unsigned()
                 % (1 << (1 + high - low)),
         }
     }
@@ -45,8 +59,8 @@ impl Field {
         ensures { result ≡ placed self bits }
     {
         match self {
-            Field::Bits(_, _) => 0,
-            Field::Immediate(high, low) => (bits % (1 << (1 + high - low))) << low,
+            Field::Bits { .. } => 0,
+            Field::Immediate { high, low } => (bits % (1 << (1 + high - low))) << low,
         }
     }
 }

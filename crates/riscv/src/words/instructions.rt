@@ -4,7 +4,7 @@ ghost use Rattle.std.specs.Fn.{FnOnceReturnsAt, FnOnceTakesAt};
 ghost use Rattle.riscv.specs.declared.words.instructions.Instruction.TheVariants.{Auipc, Branch, Jal, Jalr};
 ghost use Rattle.riscv.specs.Instructions.{branch_format as branch_format_of, jump_format as jump_format_of, layout, reach as reach_of, size as size_of, word as word_of};
 
-use super::{Field, pack};
+use super::{Field, bits, imm, pack};
 use crate::conditions::Comparison;
 
 // An instruction without its immediate. Registers stand in the order in which they are written.
@@ -25,16 +25,16 @@ fn jump_format(funct: u32) -> [Field; 10]
     ensures { result ≡ jump_format_of funct }
 {
     [
-        Field::Bits(3, funct),
-        Field::Immediate(11, 11),
-        Field::Immediate(4, 4),
-        Field::Immediate(9, 8),
-        Field::Immediate(10, 10),
-        Field::Immediate(6, 6),
-        Field::Immediate(7, 7),
-        Field::Immediate(3, 1),
-        Field::Immediate(5, 5),
-        Field::Bits(2, 0b01),
+        bits(3, funct),
+        imm(11, 11),
+        imm(4, 4),
+        imm(9, 8),
+        imm(10, 10),
+        imm(6, 6),
+        imm(7, 7),
+        imm(3, 1),
+        imm(5, 5),
+        bits(2, 0b01),
     ]
 }
 
@@ -43,14 +43,14 @@ fn branch_format(funct: u32, first: u32) -> [Field; 8]
     ensures { result ≡ branch_format_of funct first }
 {
     [
-        Field::Bits(3, funct),
-        Field::Immediate(8, 8),
-        Field::Immediate(4, 3),
-        Field::Bits(3, first.saturating_sub(8)),
-        Field::Immediate(7, 6),
-        Field::Immediate(2, 1),
-        Field::Immediate(5, 5),
-        Field::Bits(2, 0b01),
+        bits(3, funct),
+        imm(8, 8),
+        imm(4, 3),
+        bits(3, first.saturating_sub(8)),
+        imm(7, 6),
+        imm(2, 1),
+        imm(5, 5),
+        bits(2, 0b01),
     ]
 }
 
@@ -58,12 +58,12 @@ fn jal(rd: u32) -> [Field; 6]
     ensures { result ≡ layout (Jal rd) }
 {
     [
-        Field::Immediate(20, 20),
-        Field::Immediate(10, 1),
-        Field::Immediate(11, 11),
-        Field::Immediate(19, 12),
-        Field::Bits(5, rd),
-        Field::Bits(7, 0b110_1111),
+        imm(20, 20),
+        imm(10, 1),
+        imm(11, 11),
+        imm(19, 12),
+        bits(5, rd),
+        bits(7, 0b110_1111),
     ]
 }
 
@@ -71,36 +71,32 @@ fn branch(comparison: Comparison) -> [Field; 8]
     ensures { result ≡ layout (Branch comparison) }
 {
     [
-        Field::Immediate(12, 12),
-        Field::Immediate(10, 5),
-        Field::Bits(5, comparison.second),
-        Field::Bits(5, comparison.first),
-        Field::Bits(3, comparison.condition.funct3()),
-        Field::Immediate(4, 1),
-        Field::Immediate(11, 11),
-        Field::Bits(7, 0b110_0011),
+        imm(12, 12),
+        imm(10, 5),
+        bits(5, comparison.second),
+        bits(5, comparison.first),
+        bits(3, comparison.condition.funct3()),
+        imm(4, 1),
+        imm(11, 11),
+        bits(7, 0b110_0011),
     ]
 }
 
 fn auipc(rd: u32) -> [Field; 3]
     ensures { result ≡ layout (Auipc rd) }
 {
-    [
-        Field::Immediate(19, 0),
-        Field::Bits(5, rd),
-        Field::Bits(7, 0b001_0111),
-    ]
+    [imm(19, 0), bits(5, rd), bits(7, 0b001_0111)]
 }
 
 fn jalr(rd: u32, base: u32) -> [Field; 5]
     ensures { result ≡ layout (Jalr rd base) }
 {
     [
-        Field::Immediate(11, 0),
-        Field::Bits(5, base),
-        Field::Bits(3, 0b000),
-        Field::Bits(5, rd),
-        Field::Bits(7, 0b110_0111),
+        imm(11, 0),
+        bits(5, base),
+        bits(3, 0b000),
+        bits(5, rd),
+        bits(7, 0b110_0111),
     ]
 }
 
