@@ -10,10 +10,9 @@ use Rattle.riscv.specs.Encodings.{lower, upper}
 use Rattle.riscv.specs.Finding.{FindsPair, FindsSpelling, alone, step}
 use Rattle.riscv.specs.Instructions.{inverted, size, stored, word}
 use Rattle.riscv.specs.Reading.{half, immediate, whole}
-use Rattle.riscv.specs.Apart.{carries_one, carries_onward, carries_over, carries_lower, carries_upper, halves_apart, one_short, stored_four, stored_two, wholes_apart, word_below}
+use Rattle.riscv.specs.Apart.{carries_one, carries_onward, carries_over, carries_lower, carries_upper, halves_apart, one_short, stored_fills, stored_four, stored_two, wholes_apart, word_below}
 use Rattle.riscv.specs.Entries.{sound}
 use Rattle.riscv.specs.Recovering.{Carries, Registers, half_back, immediate_back, whole_back}
-use Rattle.riscv.specs.Rows.{stored_fills}
 
 -- a word by the instruction that it is
 module _ (x : Instruction) (i : ℤ) (n : ℕ) (same : word x i ≡ n) (r : Registers x) (carries : Carries x i) where

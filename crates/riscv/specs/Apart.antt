@@ -20,7 +20,6 @@ use Rattle.riscv.specs.Words.{span}
 use Rattle.riscv.specs.Entries.{Sound}
 use Rattle.riscv.specs.Packing.{number_below}
 use Rattle.riscv.specs.Recovering.{Carries, Registers, bottom, even, half_back, immediate_back, whole_back}
-use Rattle.riscv.specs.Rows.{stored_fills}
 
 pub some_same : {A : Type 0} {a b : A} → ◌≡◌ {A = Option A} (Some a) (Some b) → a ≡ b
 some_same {A} {a} {b} e = let same : a ≡ b = cc in same
@@ -35,6 +34,17 @@ sizes (Jal rd) = inr refl
 sizes (Branch c) = inr refl
 sizes (Auipc rd) = inr refl
 sizes (Jalr rd base) = inr refl
+
+-- as many bytes as its length says
+pub stored_fills : (x : Instruction) (i : ℤ) → length (stored x i) ≡ size x
+stored_fills CJ i = refl
+stored_fills CJal i = refl
+stored_fills (CBeqz first) i = refl
+stored_fills (CBnez first) i = refl
+stored_fills (Jal rd) i = refl
+stored_fills (Branch c) i = refl
+stored_fills (Auipc rd) i = refl
+stored_fills (Jalr rd base) i = refl
 
 spans : (x : Instruction) → span (layout x) ≡ 8 * size x
 spans CJ = refl
@@ -128,15 +138,6 @@ inverse_twice Bgeu = refl
 pub inverted_twice : (c : Comparison) → inverted (inverted c) ≡ c
 inverted_twice c = λ k. record { condition = inverse_twice c.condition k; first = c.first; second = c.second }
 
-through_same : (t t' : ℕ) → Auipc t ≡ Auipc t' → t ≡ t'
-through_same t t' e = cc
-
-link_same : (l t l' t' : ℕ) → Jalr l t ≡ Jalr l' t' → l ≡ l'
-link_same l t l' t' e = cc
-
-comparison_same : (c c' : Comparison) → Branch c ≡ Branch c' → c ≡ c'
-comparison_same c c' e = cc
-
 pub bytes_apart : (e e' : Encoding) (d d' : ℤ) → Sound e → Sound e' → Takes table e d → Takes table e' d' → bytes e d ≡ bytes e' d' → (e ≡ e') × (d ≡ d')
 bytes_apart (One x) (One y) d d' s s' takes takes' same =
     let parts = stored_apart x y d d' s.0 s'.0 (carries_one x d s.1 takes) (carries_one y d' s'.1 takes') same in
@@ -148,9 +149,11 @@ bytes_apart (Long c) (One y) d d' s s' takes takes' same = absurd (one_short y d
 bytes_apart (Far l t) (Far l' t') d d' s s' takes takes' same =
     let high = stored_apart (Auipc t) (Auipc t') (upper d) (upper d') s.1 s'.1 (carries_upper l t d takes) (carries_upper l' t' d' takes') (ap (take 4) same) in
     let below = stored_apart (Jalr l t) (Jalr l' t') (lower d) (lower d') s s' (carries_lower l t d takes) (carries_lower l' t' d' takes') (ap (drop 4) same) in
+    let through = high.0 in
+    let link = below.0 in
     let upper_same = high.1 in
     let lower_same = below.1 in
-    ((λ k. Far (link_same l t l' t' below.0 k) (through_same t t' high.0 k)), omega (arith, ints, upper_same, lower_same))
+    (cc, omega (arith, ints, upper_same, lower_same))
 bytes_apart (Far l t) (Long c) d d' s s' takes takes' same =
     absurd (omega (arith, ap reach (stored_apart (Auipc t) (Branch (inverted c)) (upper d) (pos 8) s.1 s' (carries_upper l t d takes) (carries_over (inverted c)) (ap (take 4) same)).0))
 bytes_apart (Long c) (Far l t) d d' s s' takes takes' same =
@@ -158,5 +161,7 @@ bytes_apart (Long c) (Far l t) d d' s s' takes takes' same =
 bytes_apart (Long c) (Long c') d d' s s' takes takes' same =
     let over = stored_apart (Branch (inverted c)) (Branch (inverted c')) (pos 8) (pos 8) s s' (carries_over (inverted c)) (carries_over (inverted c')) (ap (take 4) same) in
     let onward = stored_apart (Jal 0) (Jal 0) (d -ℤ pos 4) (d' -ℤ pos 4) (lit≤ tt) (lit≤ tt) (carries_onward c d takes) (carries_onward c' d' takes') (ap (drop 4) same) in
+    let same_over = over.0 in
     let less = onward.1 in
-    (ap Long (sym (inverted_twice c) ∙ ap inverted (comparison_same (inverted c) (inverted c') over.0) ∙ inverted_twice c'), omega (arith, ints, less))
+    let same_inverted : inverted c ≡ inverted c' = cc in
+    (ap Long (sym (inverted_twice c) ∙ ap inverted same_inverted ∙ inverted_twice c'), omega (arith, ints, less))

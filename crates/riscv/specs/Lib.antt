@@ -9,4 +9,3 @@ pub mod Entries
 pub mod Recovering
 pub mod Telling
 pub mod Packing
-pub mod Rows

@@ -52,9 +52,6 @@ number_below (f ∷ fs) i =
     subst (λ n. held i f * 2 ^ span fs + number fs i < n) (sym (pow-add 2 (width f) (span fs) ∙ mul_comm (2 ^ width f) (2 ^ span fs)))
     (mul-add-lt (held i f) (2 ^ span fs) (number fs i) (2 ^ width f) (held_below i f) (number_below fs i))
 
-pub word_fits : (fs : List Field) (i : ℤ) → Laid fs → number fs i < 2 ^ 32
-word_fits fs i laid = lt_of_lt_of_le (number_below fs i) (pow_mono laid.room)
-
 pub span_append : (ps qs : List Field) → span (ps ++ qs) ≡ span ps + span qs
 span_append [] qs = omega arith
 span_append (p ∷ ps) qs = omega (arith, span_append ps qs)

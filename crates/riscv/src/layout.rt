@@ -50,9 +50,9 @@ fn put_two(first: Step, second: Step, out: &mut [u8])
     requires { instruction_size first.instruction + instruction_size second.instruction ≤ length out.old }
     ensures { out.new ≡ (stored first.instruction first.immediate ++ stored second.instruction second.immediate) ++ drop (instruction_size first.instruction + instruction_size second.instruction) out.old }
 {
-    let start = first.instruction.size() as usize;
-    put_one(first, out);
-    put_one(second, &mut out[start..]);
+    let (front, rest) = out.split_at_mut(first.instruction.size() as usize);
+    put_one(first, front);
+    put_one(second, rest);
 }
 
 // Puts the branch at the front of `out`.

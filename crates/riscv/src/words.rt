@@ -1,5 +1,5 @@
 // Instruction words as lists of fields, highest bits first.
-ghost use Rattle.std.specs.Prelude.{◌≡◌, ◌^◌, ◌<◌};
+ghost use Rattle.std.specs.Prelude.{◌≡◌, ◌%◌, ◌^◌, ◌<◌};
 ghost use Rattle.riscv.specs.declared.words.Field.TheVariants.{Bits, Immediate};
 ghost use Rattle.riscv.specs.Reading.{gathered, placed};
 ghost use Rattle.riscv.specs.Words.{InWord, Laid, held, number, span, width as width_of};
@@ -29,6 +29,14 @@ fn imm(high: u32, low: u32) -> Field
     Field::Immediate { high, low }
 }
 
+// So many of a number's bits, the lowest.
+fn low_bits(number: u32, count: u32) -> u32
+    requires { count < 32 }
+    ensures { result ≡ number % 2 ^ count }
+{
+    number % (1 << count)
+}
+
 impl Field {
     // How many bits it has.
     fn width(self) -> u32
@@ -47,9 +55,11 @@ impl Field {
         ensures { result ≡ held immediate self }
     {
         match self {
-            Field::Bits { count, number } => number % (1 << count),
-            Field::Immediate { high, low } => (immediate >> low).cast_unsigned()
-                % (1 << (1 + high - low)),
+            Field::Bits { count, number } => low_bits(number, count),
+            Field::Immediate { high, low } => low_bits(
+                (immediate >> low).cast_unsigned(),
+                1 + high - low,
+            ),
         }
     }
 
@@ -60,7 +70,7 @@ impl Field {
     {
         match self {
             Field::Bits { .. } => 0,
-            Field::Immediate { high, low } => (bits % (1 << (1 + high - low))) << low,
+            Field::Immediate { high, low } => low_bits(bits, 1 + high - low) << low,
         }
     }
 }

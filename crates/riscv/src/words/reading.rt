@@ -3,7 +3,7 @@ ghost use Rattle.std.specs.Prelude.{◌≡◌, ◌*◌, ◌^◌, ◌<◌, ◌≤
 ghost use Rattle.riscv.specs.Finding.{step};
 ghost use Rattle.riscv.specs.Reading.{cut as cut_of, half as half_of, immediate as immediate_of, twos_complement, whole as whole_of};
 
-use super::gather;
+use super::{gather, low_bits};
 use crate::conditions::{Comparison, Condition};
 use crate::words::instructions::{Instruction, Step};
 
@@ -12,7 +12,7 @@ fn cut(word: u32, high: u32, low: u32) -> u32
     requires { (low ≤ high) × (high < 31) }
     ensures { result ≡ cut_of word high low }
 {
-    (word >> low) % (1 << (1 + high - low))
+    low_bits(word >> low, 1 + high - low)
 }
 
 // The number from minus the reach to below the reach whose two's complement this is.

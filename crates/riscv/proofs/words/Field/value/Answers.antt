@@ -1,8 +1,8 @@
 -- An arithmetic shift brings the bits down.
 use Rattle.std.proofs.Common.{◌≡◌, ◌+◌, ◌-◌, ◌%◌, ◌^◌, sym, ap, ◌∙◌, subst, arith, w32, SFits, to_z, of_z}
-use lib.Signed.{mag_shr, shr_z}
+use Rattle.std.specs.Int.Signed.{shr_z}
+use lib.Signed.{mag_shr}
 use mir.ValLaws.{sfits_le}
-use Rattle.std.proofs.lemmas.Nat.{one_shl}
 use Rattle.std.proofs.lemmas.Int.{to_z-of_z}
 use Rattle.riscv.specs.Words.{InWord, held}
 use Rattle.riscv.specs.Packing.{shifted}
@@ -11,10 +11,9 @@ use Rattle.riscv.proofs.words.Field.value.Goals as goal
 pub returns-in-Immediate : goal.returns-in-Immediate
 returns-in-Immediate c =
     let i = c.args.immediate in
-    let high = c.in-Immediate.high in
     let low = c.in-Immediate.low in
-    let count = 1 + high - low in
+    let count = 1 + c.in-Immediate.high - low in
     let fits = subst InWord c.in-Immediate.is c.requires in
     let small : SFits w32 (shr_z i (2 ^ low)) = sfits_le (mag_shr i (2 ^ low)) c.ranges.immediate in
-    let same : to_z w32 (of_z w32 (shr_z (to_z w32 (of_z w32 i)) (2 ^ low))) ≡ shr_z i (2 ^ low) = ap (λ z. to_z w32 (of_z w32 (shr_z z (2 ^ low)))) (to_z-of_z w32 i c.ranges.immediate) ∙ to_z-of_z w32 (shr_z i (2 ^ low)) small in
-    ap (λ x. c.cast_unsigned.result % x) (one_shl count 32 (omega arith)) ∙ ap (λ n. n % 2 ^ count) (c.cast_unsigned.ensures ∙ ap (of_z w32) same) ∙ shifted i low count c.ranges.immediate (omega arith) ∙ sym (ap (held i) c.in-Immediate.is)
+    let same : to_z w32 (of_z w32 (shr_z (to_z w32 (of_z w32 i)) (2 ^ low))) ≡ shr_z i (2 ^ low) = simp (to_z-of_z, c.ranges.immediate, small) in
+    c.low_bits-in-Immediate.ensures ∙ ap (λ n. n % 2 ^ count) (c.cast_unsigned.ensures ∙ ap (of_z w32) same) ∙ shifted i low count c.ranges.immediate (omega arith) ∙ sym (ap (held i) c.in-Immediate.is)
