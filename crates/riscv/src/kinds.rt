@@ -1,5 +1,5 @@
 // The kinds of branch, and the numbers that they have.
-ghost use Rattle.std.specs.Prelude.{◌≡◌};
+ghost use Rattle.std.specs.Prelude.{◌≡◌, ◌-◌, ◌/◌, ◌%◌, ◌<◌, ◌≤◌};
 ghost use Rattle.std.specs.List.{slice_get};
 ghost use Rattle.riscv.specs.declared.kinds.Kind.TheVariants.{Conditional};
 ghost use Rattle.riscv.specs.Encodings.{comparison as comparison_of, conditions};
@@ -43,7 +43,8 @@ fn comparison(number: u32) -> Option<Comparison>
 
 // The place of a condition among them.
 fn place(condition: Condition) -> u32
-    ensures { slice_get conditions result ≡ Some condition }
+    ensures few { result < 6 }
+    ensures at { slice_get conditions result ≡ Some condition }
 {
     match condition {
         Condition::Beq => 0,
@@ -53,6 +54,17 @@ fn place(condition: Condition) -> u32
         Condition::Bltu => 4,
         Condition::Bgeu => 5,
     }
+}
+
+// The number with these digits.
+fn digits(place: u32, first: u32, second: u32) -> u32
+    requires { (place < 6) × (first < 32) × (second < 32) }
+    ensures least { FIRST_CONDITION ≤ result }
+    ensures place { (result - FIRST_CONDITION) / 1024 ≡ place }
+    ensures first { (result - FIRST_CONDITION) / 32 % 32 ≡ first }
+    ensures second { (result - FIRST_CONDITION) % 32 ≡ second }
+{
+    FIRST_CONDITION + 1024 * place + 32 * first + second
 }
 
 // The number that stands for a condition over registers.
@@ -65,7 +77,7 @@ fn number(comparison: Comparison) -> Option<u32>
         second,
     } = comparison;
     if first < 32 && second < 32 {
-        Some(FIRST_CONDITION + 1024 * place(condition) + 32 * first + second)
+        Some(digits(place(condition), first, second))
     } else {
         None
     }
