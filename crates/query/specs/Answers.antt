@@ -12,7 +12,7 @@ use Rattle.query.specs.Words.{hex, words}
 -- the right answer to a question, for a target; writing has room for 16 bytes, the most that any form takes
 abbrev pub Answered : Meaning → Question → Answer → Type 0
 Answered m (write b) (Written (Ok bytes)) = Writable m b.kind b.form b.distance × (vec_items bytes ≡ m.bytes b.kind b.form b.distance)
-Answered m (write b) (Written (Err fault)) = Judged (write_table m b.kind b.form b.distance 16) (Some (code fault))
+Answered m (write b) (Written (Err fault)) = Judged (write_table m b 16) (Some (code fault))
 Answered m (write b) (Read branch) = ⊥
 Answered m (read bs) (Written bytes) = ⊥
 Answered m (read bs) (Read branch) = Reading m bs branch
@@ -22,6 +22,7 @@ abbrev pub TakesMemory : Meaning → Question → Type 0
 TakesMemory m (write b) = Writable m b.kind b.form b.distance
 TakesMemory m (read bs) = ⊥
 
+-- the text of an answer
 abbrev pub text : Answer → List ℕ
 text (Written (Ok bytes)) = hex (vec_items bytes)
 text (Written (Err fault)) = codes "refused " ++ decimal (code fault)

@@ -9,7 +9,7 @@ use std::alloc::{AllocError, Global};
 use std::fmt;
 use target::{Branch, Target, WriteFault};
 
-// The longest form of any target.
+// The longest form of any target. A branch is written into so much first: the heap is asked only for the bytes of one that can be written.
 const LONGEST: usize = 16;
 
 // To a branch to write, its bytes or why there are none; to bytes to read, the branch that they mean.
@@ -45,9 +45,9 @@ fn write<T: Target>(heap: Global, target: &T, branch: Branch) -> Result<Answer, 
     ensures { MatchResult result (λ a. Answered (T.Target.meaning target.now) (writing branch) a) (λ _. TakesMemory (T.Target.meaning target.now) (writing branch)) }
 {
     let mut out = [0; LONGEST];
-    match target.write(branch.kind, branch.form, branch.distance, &mut out) {
+    match target.write(branch, &mut out) {
         Ok(()) => {
-            let size = target.size(branch.kind, branch.form) as usize;
+            let size = target.size(branch.entry()) as usize;
             Ok(Answer::Written(Ok(Vec::from_slice(heap, &out[..size])?)))
         }
         Err(fault) => Ok(Answer::Written(Err(fault))),

@@ -5,7 +5,8 @@ use Rattle.std.specs.Int.{to_le_bytes, w16, w32}
 use Rattle.riscv.specs.declared.encodings.Encoding.TheVariants.{One, Far, Long}
 use Rattle.riscv.specs.declared.words.instructions.Instruction.{Instruction}
 use Rattle.riscv.specs.declared.words.instructions.Instruction.TheVariants.{Jal, Branch, Auipc, Jalr}
-use Rattle.riscv.specs.declared.finding.Spelled.{Spelled}
+use Rattle.target.specs.declared.table.Spelled.{Spelled}
+use Rattle.riscv.specs.declared.encodings.Encoding.{Encoding}
 use Rattle.riscv.specs.Encodings.{lower, upper}
 use Rattle.riscv.specs.Finding.{FindsPair, FindsSpelling, alone, step}
 use Rattle.riscv.specs.Instructions.{inverted, size, stored, word}
@@ -26,7 +27,7 @@ module _ (x : Instruction) (i : ℤ) (n : ℕ) (same : word x i ≡ n) (r : Regi
   whole_step four = ap (step n) (ap whole (sym same) ∙ whole_back x i four r) ∙ ap (λ z. Some (record { instruction = x; immediate = z })) held_immediate
 
 -- bytes that are those of a word of 16 bits
-pub half_found : (n : ℕ) (bytes : List ℕ) (found : Option Spelled) → n < 2 ^ 16 → to_le_bytes w16 n ≡ bytes → found ≡ alone (step n (half n)) → FindsSpelling bytes found
+pub half_found : (n : ℕ) (bytes : List ℕ) (found : Option (Spelled Encoding)) → n < 2 ^ 16 → to_le_bytes w16 n ≡ bytes → found ≡ alone (step n (half n)) → FindsSpelling bytes found
 half_found n bytes found small are finds k f (One x) d is spells =
     let s = sound k f (One x) is in
     let has : stored x d ≡ to_le_bytes w16 n = spells.has_bytes ∙ sym are in
@@ -37,7 +38,7 @@ half_found n bytes found small are finds k f (Far link through) d is spells = ab
 half_found n bytes found small are finds k f (Long c) d is spells = absurd (omega (arith, ap length (spells.has_bytes ∙ sym are)))
 
 -- and of one of 32 bits
-pub whole_found : (n : ℕ) (bytes : List ℕ) (found : Option Spelled) → n < 2 ^ 32 → to_le_bytes w32 n ≡ bytes → found ≡ alone (step n (whole n)) → FindsSpelling bytes found
+pub whole_found : (n : ℕ) (bytes : List ℕ) (found : Option (Spelled Encoding)) → n < 2 ^ 32 → to_le_bytes w32 n ≡ bytes → found ≡ alone (step n (whole n)) → FindsSpelling bytes found
 whole_found n bytes found small are finds k f (One x) d is spells =
     let s = sound k f (One x) is in
     let has : stored x d ≡ to_le_bytes w32 n = spells.has_bytes ∙ sym are in
@@ -59,7 +60,7 @@ module _ (m n : ℕ) (hm : m < 2 ^ 32) (hn : n < 2 ^ 32) (x y : Instruction) (i 
   second_word = wholes_apart (word y j) n (word_below y j 4 four') hn (ap (drop 4) words)
 
 -- and of two of those
-pub two_found : (m n : ℕ) (bytes : List ℕ) (found : Option Spelled) → m < 2 ^ 32 → n < 2 ^ 32 → to_le_bytes w32 m ++ to_le_bytes w32 n ≡ bytes → FindsPair (step m (whole m)) (step n (whole n)) found → FindsSpelling bytes found
+pub two_found : (m n : ℕ) (bytes : List ℕ) (found : Option (Spelled Encoding)) → m < 2 ^ 32 → n < 2 ^ 32 → to_le_bytes w32 m ++ to_le_bytes w32 n ≡ bytes → FindsPair (step m (whole m)) (step n (whole n)) found → FindsSpelling bytes found
 two_found m n bytes found hm hn are finds k f (One x) d is spells = absurd (one_short x d _ refl (spells.has_bytes ∙ sym are))
 two_found m n bytes found hm hn are finds k f (Far l t) d is spells =
     let s = sound k f (Far l t) is in

@@ -16,7 +16,7 @@ use Rattle.riscv.specs.declared.kinds.Kind.{Kind}
 use Rattle.riscv.specs.declared.kinds.Kind.TheVariants.{J, Call, Conditional}
 use Rattle.riscv.specs.Finding.{kind}
 
--- the number of a kind
+-- the place of a condition among the kinds
 abbrev place : Condition → ℕ
 place Beq = 0
 place Bne = 1
@@ -25,6 +25,7 @@ place Bge = 3
 place Bltu = 4
 place Bgeu = 5
 
+-- the number of a kind
 abbrev number_of : Kind → ℕ
 number_of J = 0
 number_of Call = 1
@@ -61,13 +62,14 @@ numbered k J is = grind (arith, nat_tests)
 numbered k Call is = grind (arith, nat_tests)
 numbered k (Conditional c) is = grind (arith, nat_tests)
 
--- the encodings of a kind that is a condition
+-- a number past those of the jumps
 no_jump : (k : ℕ) (j call rest : List Encoding) → 4096 ≤ k → cond (k == 0) j (cond (k == 1) call rest) ≡ rest
 no_jump k j call rest large = grind (arith, nat_tests)
 
 compares : (k : ℕ) (c : Comparison) → kind k ≡ Some (Conditional c) → comparison k ≡ Some c
 compares k c is = grind (arith, nat_tests)
 
+-- the encodings of a kind that is a condition
 of_condition : (k : ℕ) (c : Comparison) → kind k ≡ Some (Conditional c) → encodings k ≡ both c (compressed c)
 of_condition k c is = no_jump k _ _ (conditional (comparison k)) (omega (arith, numbered k (Conditional c) is)) ∙ ap conditional (compares k c is)
 

@@ -1,14 +1,15 @@
 // The table of branches: which encodings each has, and their sizes and reaches.
-ghost use Rattle.std.specs.Prelude.{◌≡◌, length, MatchBool};
+ghost use Rattle.std.specs.Prelude.{◌≡◌};
 ghost use Rattle.std.specs.List.{slice_get};
-ghost use Rattle.target.specs.Table.{Takes, encoding, of_form};
-ghost use Rattle.riscv.specs.Encodings.{both, compressed as compressed_of, encodings, high as high_of, low as low_of, size as size_of, table};
-ghost use Rattle.riscv.specs.Finding.{Entered};
+ghost use Rattle.target.specs.Table.{of_form};
+ghost use Rattle.riscv.specs.Encodings.{both, compressed as compressed_of, table};
+ghost use Rattle.riscv.specs.Laws.{extents};
 ghost use Rattle.riscv.specs.declared.kinds.Kind.TheVariants.{Conditional};
 
 use crate::conditions::{Comparison, Condition};
 use crate::kinds::Kind;
 use crate::words::instructions::Instruction;
+use target::{Entry, Extent, Listed};
 
 // How a branch is made of instructions.
 #[derive(Clone, Copy)]
@@ -19,13 +20,6 @@ pub enum Encoding {
     Far(u32, u32),
     // the inverse condition over a JAL
     Long(Comparison),
-}
-
-// A form of a kind.
-#[derive(Clone, Copy)]
-pub struct Entry {
-    pub kind: u32,
-    pub form: u32,
 }
 
 // The 16-bit instruction for a condition, which knows x8 to x15 against x0 only.
@@ -54,21 +48,7 @@ fn against_zero(condition: Condition, first: u32) -> Kind
 fn own_form(comparison: Comparison) -> u32
     ensures { result ≡ of_form 0 (λ _. 1) (compressed_of comparison) }
 {
-    match compressed(comparison) {
-        Some(_) => 1,
-        None => 0,
-    }
-}
-
-// How many encodings a kind has.
-pub fn forms(kind: u32) -> u32
-    ensures { result ≡ length (encodings kind) }
-{
-    match Kind::of(kind) {
-        Some(Kind::J | Kind::Call) => 3,
-        Some(Kind::Conditional(comparison)) => own_form(comparison) + 2,
-        None => 0,
-    }
+    u32::from(compressed(comparison).is_some())
 }
 
 // The encoding of a condition in a form.
@@ -83,37 +63,23 @@ fn conditional(comparison: Comparison, form: u32) -> Option<Encoding>
     }
 }
 
-impl Encoding {
-    // The encoding of a kind and a form.
-    pub fn of(kind: u32, form: u32) -> Option<Encoding>
-        ensures { result ≡ encoding table kind form }
-    {
-        match (Kind::of(kind)?, form) {
-            (Kind::J, 0) => Some(Encoding::One(Instruction::CJ)),
-            (Kind::J, 1) => Some(Encoding::One(Instruction::Jal(0))),
-            (Kind::J, 2) => Some(Encoding::Far(0, 6)),
-            (Kind::Call, 0) => Some(Encoding::One(Instruction::CJal)),
-            (Kind::Call, 1) => Some(Encoding::One(Instruction::Jal(1))),
-            (Kind::Call, 2) => Some(Encoding::Far(1, 1)),
-            (Kind::J | Kind::Call, _) => None,
-            (Kind::Conditional(comparison), _) => conditional(comparison, form),
-        }
+impl Extent for Encoding {
+    ghost table = { table };
+
+    ghost extents = { extents };
+
+    fn granule() -> u32 {
+        2
     }
 
-    // Its length in bytes.
-    pub fn size(self) -> u32
-        ensures { result ≡ size_of self }
-    {
+    fn size(self) -> u32 {
         match self {
             Encoding::One(instruction) => instruction.size(),
             Encoding::Far(_, _) | Encoding::Long(_) => 8,
         }
     }
 
-    // The least distance that it reaches.
-    pub fn low(self) -> i32
-        ensures { result ≡ low_of self }
-    {
+    fn low(self) -> i32 {
         match self {
             Encoding::One(instruction) => -(instruction.reach() as i32),
             Encoding::Far(_, _) => -33_554_432,
@@ -121,28 +87,38 @@ impl Encoding {
         }
     }
 
-    // The greatest distance that it reaches.
-    pub fn high(self) -> i32
-        ensures { result ≡ high_of self }
-    {
+    fn high(self) -> i32 {
         match self {
             Encoding::One(instruction) => instruction.reach() as i32 - 2,
             Encoding::Far(_, _) => 33_554_431,
             Encoding::Long(_) => 1_048_578,
         }
     }
+}
 
-    // Whether it can be written with a distance.
-    pub fn takes(self, distance: i32) -> bool
-        ensures { MatchBool result (Takes table self distance) (Takes table self distance → ⊥) }
-    {
-        self.low() <= distance && distance <= self.high() && distance % 2 == 0
+impl Listed for Encoding {
+    fn forms(kind: u32) -> u32 {
+        match Kind::try_from(kind) {
+            Ok(Kind::J | Kind::Call) => 3,
+            Ok(Kind::Conditional(comparison)) => own_form(comparison) + 2,
+            Err(_) => 0,
+        }
     }
 
-    // The kind and form that have it.
-    pub fn entry(self) -> Option<Entry>
-        ensures { Entered self result }
-    {
+    fn of(entry: Entry) -> Option<Encoding> {
+        match (Kind::try_from(entry.kind).ok()?, entry.form) {
+            (Kind::J, 0) => Some(Encoding::One(Instruction::CJ)),
+            (Kind::J, 1) => Some(Encoding::One(Instruction::Jal(0))),
+            (Kind::J, 2) => Some(Encoding::Far(0, 6)),
+            (Kind::Call, 0) => Some(Encoding::One(Instruction::CJal)),
+            (Kind::Call, 1) => Some(Encoding::One(Instruction::Jal(1))),
+            (Kind::Call, 2) => Some(Encoding::Far(1, 1)),
+            (Kind::J | Kind::Call, _) => None,
+            (Kind::Conditional(comparison), form) => conditional(comparison, form),
+        }
+    }
+
+    fn entry(self) -> Option<Entry> {
         let (kind, form) = match self {
             Encoding::One(Instruction::CJ) => (Kind::J, 0),
             Encoding::One(Instruction::Jal(0)) => (Kind::J, 1),

@@ -1,19 +1,12 @@
 // The one encoding and distance that bytes can spell. Whether they do is found by writing that again.
 ghost use Rattle.std.specs.Prelude.{◌≡◌, Decides};
-ghost use Rattle.target.specs.Table.{Spells};
+ghost use Rattle.target.specs.Table.{Decoded, Spells};
 ghost use Rattle.riscv.specs.Encodings.{table};
-ghost use Rattle.riscv.specs.Finding.{Decoded, FindsFar, FindsLong, FindsPair, FindsSpelling, alone};
+ghost use Rattle.riscv.specs.Finding.{FindsFar, FindsLong, FindsPair, FindsSpelling, alone};
 
 use crate::encodings::Encoding;
-use crate::layout::put;
 use crate::words::instructions::{Instruction, Step};
-
-// An encoding, and the distance that it branches over.
-#[derive(Clone, Copy)]
-pub struct Spelled {
-    pub encoding: Encoding,
-    pub distance: i32,
-}
+use target::{Encode, Extent, Spelled};
 
 // The distance with these two parts.
 fn far(upper: i32, lower: i32) -> i32
@@ -30,18 +23,17 @@ fn long(onward: i32) -> i32
 }
 
 // The encoding and distance of an instruction alone.
-fn one(step: Option<Step>) -> Option<Spelled>
+fn one(step: Option<Step>) -> Option<Spelled<Encoding>>
     ensures { result ≡ alone step }
 {
-    let step = step?;
-    Some(Spelled {
+    step.map(|step| Spelled {
         encoding: Encoding::One(step.instruction),
         distance: step.immediate,
     })
 }
 
 // The encoding and distance of two instructions.
-fn two(first: Option<Step>, second: Option<Step>) -> Option<Spelled>
+fn two(first: Option<Step>, second: Option<Step>) -> Option<Spelled<Encoding>>
     ensures { FindsPair first second result }
 {
     let first = first?;
@@ -60,7 +52,7 @@ fn two(first: Option<Step>, second: Option<Step>) -> Option<Spelled>
 }
 
 // The encoding and distance that these bytes spell, if they spell any.
-fn spelling(bytes: &[u8]) -> Option<Spelled>
+fn spelling(bytes: &[u8]) -> Option<Spelled<Encoding>>
     ensures { FindsSpelling bytes.now result }
 {
     match *bytes {
@@ -75,25 +67,18 @@ fn spelling(bytes: &[u8]) -> Option<Spelled>
 }
 
 // Whether these are the bytes of an encoding and a distance: they are written and compared.
-fn spells(found: Spelled, bytes: &[u8]) -> bool
+fn spells(found: Spelled<Encoding>, bytes: &[u8]) -> bool
     ensures { Decides result (Spells table bytes.now found.encoding found.distance) }
 {
-    if !found.encoding.takes(found.distance) {
-        return false;
-    }
+    // the longest encoding has 8 bytes, and nothing of a target is on the heap
     let mut row = [0; 8];
-    put(found.encoding, found.distance, &mut row);
-    row[..found.encoding.size() as usize] == bytes[..]
+    Encoding::write(found, &mut row).is_ok() && row[..found.encoding.size() as usize] == bytes[..]
 }
 
 // The encoding and distance whose bytes these are.
-pub fn decode(bytes: &[u8]) -> Option<Spelled>
-    ensures { Decoded bytes.now result }
+pub fn decode(bytes: &[u8]) -> Option<Spelled<Encoding>>
+    ensures { Decoded table bytes.now result }
 {
     let found = spelling(bytes)?;
-    if spells(found, bytes) {
-        Some(found)
-    } else {
-        None
-    }
+    spells(found, bytes).then_some(found)
 }

@@ -1,11 +1,14 @@
 // The kinds of branch, and the numbers that they have.
 ghost use Rattle.std.specs.Prelude.{◌≡◌, ◌-◌, ◌/◌, ◌%◌, ◌<◌, ◌≤◌};
 ghost use Rattle.std.specs.List.{slice_get};
+ghost use Rattle.std.specs.Option.{ok_or};
+ghost use Rattle.target.specs.declared.interface.WriteFault.TheVariants.{UnknownKind};
 ghost use Rattle.riscv.specs.declared.kinds.Kind.TheVariants.{Conditional};
 ghost use Rattle.riscv.specs.Encodings.{comparison as comparison_of, conditions};
 ghost use Rattle.riscv.specs.Finding.{Numbered, kind};
 
 use crate::conditions::{Comparison, Condition};
+use target::WriteFault;
 
 // What a branch does.
 #[derive(Clone, Copy)]
@@ -41,7 +44,7 @@ fn comparison(number: u32) -> Option<Comparison>
     })
 }
 
-// The place of a condition among them.
+// The place of a condition among them: a match, since a search of the list would answer an `Option`, and every condition is in it.
 fn place(condition: Condition) -> u32
     ensures few { result < 6 }
     ensures at { slice_get conditions result ≡ Some condition }
@@ -76,26 +79,27 @@ fn number(comparison: Comparison) -> Option<u32>
         first,
         second,
     } = comparison;
-    if first < 32 && second < 32 {
-        Some(digits(place(condition), first, second))
-    } else {
-        None
+    (first < 32 && second < 32).then(|| digits(place(condition), first, second))
+}
+
+impl TryFrom<u32> for Kind {
+    type Error = WriteFault;
+
+    ghost try_from_gives = { λ number answer. answer ≡ ok_or (kind number) UnknownKind };
+
+    fn try_from(number: u32) -> Result<Kind, WriteFault> {
+        match number {
+            0 => Ok(Kind::J),
+            1 => Ok(Kind::Call),
+            _ => comparison(number)
+                .map(Kind::Conditional)
+                .ok_or(WriteFault::UnknownKind),
+        }
     }
 }
 
 impl Kind {
-    // The kind with this number: no `TryFrom` and `From`, since a kind with a register past x31 has none.
-    pub fn of(number: u32) -> Option<Kind>
-        ensures { result ≡ kind number }
-    {
-        match number {
-            0 => Some(Kind::J),
-            1 => Some(Kind::Call),
-            _ => comparison(number).map(Kind::Conditional),
-        }
-    }
-
-    // Its number, if it has one.
+    // Its number, if it has one: an `Option`, since a kind with a register past x31 has none, and the one caller would drop the error of a `TryFrom`.
     pub fn number(self) -> Option<u32>
         ensures { Numbered self result }
     {

@@ -6,10 +6,12 @@ ghost use Rattle.target.specs.Table.{Encoded, Takes, encode_table};
 ghost use Rattle.riscv.specs.declared.encodings.Encoding.TheVariants.{Far};
 ghost use Rattle.riscv.specs.Encodings.{bytes, lower as lower_of, size as size_of, table, upper as upper_of};
 ghost use Rattle.riscv.specs.Instructions.{size as instruction_size, stored};
+ghost use Rattle.riscv.specs.Laws.{laws};
 
 use crate::encodings::Encoding;
+use crate::finding;
 use crate::words::instructions::{Instruction, Step};
-use target::WriteFault;
+use target::{Encode, Spelled, WriteFault};
 
 // How many times 4,096 a distance is, to the nearest.
 fn upper(distance: i32) -> i32
@@ -56,12 +58,13 @@ fn put_two(first: Step, second: Step, out: &mut [u8])
 }
 
 // Puts the branch at the front of `out`.
-pub fn put(encoding: Encoding, distance: i32, out: &mut [u8])
-    requires takes { Takes table encoding distance }
-    requires room { size_of encoding ≤ length out.old }
-    ensures { out.new ≡ bytes encoding distance ++ drop (size_of encoding) out.old }
+fn put(spelled: Spelled<Encoding>, out: &mut [u8])
+    requires takes { Takes table spelled.encoding spelled.distance }
+    requires room { size_of spelled.encoding ≤ length out.old }
+    ensures { out.new ≡ bytes spelled.encoding spelled.distance ++ drop (size_of spelled.encoding) out.old }
 {
-    match encoding {
+    let distance = spelled.distance;
+    match spelled.encoding {
         Encoding::One(instruction) => put_one(
             Step {
                 instruction,
@@ -94,17 +97,20 @@ pub fn put(encoding: Encoding, distance: i32, out: &mut [u8])
     }
 }
 
-// Writes the branch at the front of `out`, or refuses and leaves `out` as it was.
-pub fn encode(encoding: Encoding, distance: i32, out: &mut [u8]) -> Result<(), WriteFault>
-    ensures refuses { Judged (encode_table table encoding distance (length out.old)) (refusal result) }
-    ensures after { Encoded table encoding distance out.old result out.new }
-{
-    if !encoding.takes(distance) {
-        return Err(WriteFault::NotWritable);
+impl Encode for Encoding {
+    ghost laws = { laws };
+
+    // The steps stand in each instruction set: shared, they would need a public call that puts, and no public call may ask that its caller has checked.
+    fn write(spelled: Spelled<Encoding>, out: &mut [u8]) -> Result<(), WriteFault>
+        ensures refuses { Judged (encode_table table spelled.encoding spelled.distance (length out.old)) (refusal result) }
+        ensures after { Encoded table spelled.encoding spelled.distance out.old result out.new }
+    {
+        spelled.check(out.len())?;
+        put(spelled, out);
+        Ok(())
     }
-    if out.len() < encoding.size() as usize {
-        return Err(WriteFault::OutputShort);
+
+    fn decode(bytes: &[u8]) -> Option<Spelled<Encoding>> {
+        finding::decode(bytes)
     }
-    put(encoding, distance, out);
-    Ok(())
 }

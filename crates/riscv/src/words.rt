@@ -2,7 +2,7 @@
 ghost use Rattle.std.specs.Prelude.{◌≡◌, ◌%◌, ◌^◌, ◌<◌};
 ghost use Rattle.riscv.specs.declared.words.Field.TheVariants.{Bits, Immediate};
 ghost use Rattle.riscv.specs.Reading.{gathered, placed};
-ghost use Rattle.riscv.specs.Words.{InWord, Laid, held, number, span, width as width_of};
+ghost use Rattle.riscv.specs.Words.{InWord, Laid, held, number, width as width_of};
 
 pub mod instructions;
 pub mod reading;

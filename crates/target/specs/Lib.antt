@@ -1,4 +1,4 @@
-pub mod Bytes
+pub mod Laws
 pub mod Meaning
 pub mod Refusals
 pub mod Table

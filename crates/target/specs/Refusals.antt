@@ -1,5 +1,5 @@
 -- Refusals as tables, and what writing and reading a branch promise.
-use Rattle.std.specs.Prelude.{◌≡◌, ℕ, ◌<◌, ◌⊎◌, List, [], ◌∷◌, ◌++◌, length, drop, ℤ, Some, None, Ok, Err, Option, Result}
+use Rattle.std.specs.Prelude.{◌≡◌, ℕ, ◌<◌, ◌⊎◌, List, [], ◌∷◌, ◌++◌, length, drop, Some, None, Ok, Err, Option, Result}
 use Rattle.target.specs.declared.interface.Branch.{Branch}
 use Rattle.target.specs.declared.interface.WriteFault.{WriteFault}
 use Rattle.target.specs.declared.interface.WriteFault.TheVariants.{UnknownKind, NotWritable, OutputShort}
@@ -26,11 +26,11 @@ refusal (Ok x) = None
 refusal (Err fault) = Some (code fault)
 
 -- when writing is refused, with room for so many bytes
-abbrev pub write_table : Meaning → ℕ → ℕ → ℤ → ℕ → List Refusal
-write_table m kind form distance room =
-    record { code = 6; when = m.forms kind ≡ 0 }
-    ∷ record { code = 14; when = Writable m kind form distance → ⊥ }
-    ∷ record { code = 13; when = room < m.size kind form } ∷ []
+abbrev pub write_table : Meaning → Branch → ℕ → List Refusal
+write_table m b room =
+    record { code = 6; when = m.forms b.kind ≡ 0 }
+    ∷ record { code = 14; when = Writable m b.kind b.form b.distance → ⊥ }
+    ∷ record { code = 13; when = room < m.size b.kind b.form } ∷ []
 
 -- memory after a call that puts bytes, so many, at its front and leaves the rest, or that refuses and leaves all
 abbrev pub Put : {T : Type 0} → List ℕ → ℕ → List ℕ → Result T WriteFault → List ℕ → Type 0
@@ -38,8 +38,8 @@ Put bytes size before (Ok x) after = after ≡ bytes ++ drop size before
 Put bytes size before (Err fault) after = after ≡ before
 
 -- memory after writing a branch
-abbrev pub Written : {T : Type 0} → Meaning → ℕ → ℕ → ℤ → List ℕ → Result T WriteFault → List ℕ → Type 0
-Written m kind form distance before r after = Put (m.bytes kind form distance) (m.size kind form) before r after
+abbrev pub Written : {T : Type 0} → Meaning → Branch → List ℕ → Result T WriteFault → List ℕ → Type 0
+Written m b before r after = Put (m.bytes b.kind b.form b.distance) (m.size b.kind b.form) before r after
 
 -- these bytes are those of this branch
 pub record Means (m : Meaning) (bytes : List ℕ) (branch : Branch) : Type 0 where
@@ -50,11 +50,6 @@ pub record Means (m : Meaning) (bytes : List ℕ) (branch : Branch) : Type 0 whe
 abbrev pub Reading : Meaning → List ℕ → Option Branch → Type 0
 Reading m bytes None = (branch : Branch) → Means m bytes branch → ⊥
 Reading m bytes (Some branch) = Means m bytes branch
-
--- what was written reads as the same kind, form and distance
-abbrev pub ReadBack : ℕ → ℕ → ℤ → Result (Option Branch) WriteFault → Type 0
-ReadBack kind form distance (Ok branch) = branch ≡ Some (record { kind = kind; form = form; distance = distance })
-ReadBack kind form distance (Err fault) = Unit {0}
 
 -- what was read is written as the same bytes, where there is room for them
 abbrev pub WrittenBack : Meaning → List ℕ → List ℕ → Result (Option Branch) WriteFault → List ℕ → Type 0

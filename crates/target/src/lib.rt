@@ -3,6 +3,8 @@
 
 mod interface;
 mod round_trip;
+mod table;
 
-pub use interface::{Branch, Target, WriteFault};
+pub use interface::{Branch, Entry, Target, WriteFault};
 pub use round_trip::{read_then_write, write_then_read};
+pub use table::{Encode, Extent, InstructionSet, Listed, Spelled};

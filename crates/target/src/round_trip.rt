@@ -1,32 +1,30 @@
 // Writing and reading undo each other, for every target.
-ghost use Rattle.std.specs.Prelude.{◌≤◌, length, take};
-ghost use Rattle.target.specs.Refusals.{Judged, ReadBack, Reading, WrittenBack, Written, refusal, write_table};
+ghost use Rattle.std.specs.Prelude.{◌≡◌, ◌≤◌, length, take, IfOk};
+ghost use Rattle.target.specs.Refusals.{Judged, Reading, WrittenBack, Written, refusal, write_table};
 
 use crate::interface::{Branch, Target, WriteFault};
 
 // Writes a branch, and reads what then stands at the front of `out`.
 pub fn write_then_read<T: Target>(
     target: &T,
-    kind: u32,
-    form: u32,
-    distance: i32,
+    branch: Branch,
     out: &mut [u8],
 ) -> Result<Option<Branch>, WriteFault>
-    ensures refuses { Judged (write_table (T.Target.meaning target.now) kind form distance (length out.old)) (refusal result) }
-    ensures after { Written (T.Target.meaning target.now) kind form distance out.old result out.new }
-    ensures same { ReadBack kind form distance result }
+    ensures refuses { Judged (write_table (T.Target.meaning target.now) branch (length out.old)) (refusal result) }
+    ensures after { Written (T.Target.meaning target.now) branch out.old result out.new }
+    ensures same { IfOk result (λ read. read ≡ Some branch) }
 {
-    target.write(kind, form, distance, out)?;
-    Ok(read_front(target, kind, form, out))
+    target.write(branch, out)?;
+    Ok(read_front(target, branch, out))
 }
 
-// Reads as many bytes at the front of `out` as the form has.
-fn read_front<T: Target>(target: &T, kind: u32, form: u32, out: &[u8]) -> Option<Branch>
-    requires { (T.Target.meaning target.now).size kind form ≤ length out.now }
-    ensures { Reading (T.Target.meaning target.now) (take ((T.Target.meaning target.now).size kind form) out.now) result }
+// Reads as many bytes at the front of `out` as the branch's form has.
+fn read_front<T: Target>(target: &T, branch: Branch, out: &[u8]) -> Option<Branch>
+    requires { (T.Target.meaning target.now).size branch.kind branch.form ≤ length out.now }
+    ensures { Reading (T.Target.meaning target.now) (take ((T.Target.meaning target.now).size branch.kind branch.form) out.now) result }
 {
-    let size = target.size(kind, form) as usize;
-    target.read(&out[0..size])
+    let size = target.size(branch.entry()) as usize;
+    target.read(&out[..size])
 }
 
 // Reads a branch, and writes what was read at the front of `out`.
@@ -40,6 +38,6 @@ pub fn read_then_write<T: Target>(
     let Some(branch) = target.read(bytes) else {
         return Ok(None);
     };
-    target.write(branch.kind, branch.form, branch.distance, out)?;
+    target.write(branch, out)?;
     Ok(Some(branch))
 }

@@ -2,16 +2,13 @@
 use Rattle.std.proofs.Common.{◌≡◌, ℕ, List, ℤ, pos, ◌+ℤ◌, ◌-ℤ◌, Some, None, Option, sym, ap, ◌∙◌, subst, arith, w32, SFits, to_z, of_z}
 use Rattle.std.proofs.lemmas.Int.{ints, to_z-of_z}
 use Rattle.std.specs.Option.{SomeIff}
+use Rattle.target.specs.declared.table.Spelled.{Spelled}
 use Rattle.target.specs.Table.{Spells, Takes}
 use Rattle.x86.specs.declared.encodings.Encoding.{Encoding}
 use Rattle.x86.specs.declared.encodings.Encoding.TheVariants.{Short, Near, Escaped}
-use Rattle.x86.specs.declared.layout.Instruction.{Instruction}
 use Rattle.x86.specs.Encodings.{size, storing, table}
-use Rattle.x86.specs.Stores.{Decoded, InWidth}
+use Rattle.x86.specs.Stores.{InWidth, Spelling}
 use Rattle.x86.specs.Laws.{in_width, storing_apart}
-
-pub displacement_is : (e : Encoding) (d r : ℤ) → SFits w32 d → SFits w32 r → r ≡ to_z w32 (of_z w32 d) -ℤ pos (size e) → to_z w32 (of_z w32 r) ≡ d -ℤ pos (size e)
-displacement_is e d r fits small is = to_z-of_z w32 r small ∙ is ∙ ap (λ z. z -ℤ pos (size e)) (to_z-of_z w32 d fits)
 
 pub sum_is : (e : Encoding) (z : ℤ) (n : ℕ) → SFits w32 z → n ≡ size e → to_z w32 (of_z w32 z) +ℤ to_z w32 n ≡ z +ℤ pos (size e)
 sum_is (Short op) z n fits is = omega (arith, ints)
@@ -37,8 +34,8 @@ module _ {bs : List ℕ} (e : Encoding) (z : ℤ) (are : storing e z ≡ bs) (fi
       let sum : d ≡ z +ℤ pos (size e) = omega (arith, ints, parts.1, ap size parts.0) in
       subst (Takes table e) sum (subst (λ x. Takes table x d) (sym parts.0) spells.takes)
 
-  pub decoded_by : (d : ℤ) → d ≡ z +ℤ pos (size e) → (r : Option Instruction) → SomeIff r (Takes table e d) (record { encoding = e; distance = d }) → Decoded bs r
+  pub decoded_by : (d : ℤ) → d ≡ z +ℤ pos (size e) → (r : Option (Spelled Encoding)) → SomeIff r (Takes table e d) (record { encoding = e; distance = d }) → Spelling bs r
   decoded_by d sum None out = λ e' d' spells. out (subst (Takes table e) (sym sum) (spelled_takes e' d' spells))
-  decoded_by d sum (Some i) within =
+  decoded_by d sum (Some s) within =
       let spells : Spells table bs e d = record { takes = within.0; has_bytes = ap (storing e) (less d z (size e) sum) ∙ are } in
-      subst (λ (x : Instruction). Spells table bs x.encoding x.distance) (sym within.1) spells
+      subst (λ (x : Spelled Encoding). Spells table bs x.encoding x.distance) (sym within.1) spells

@@ -1,7 +1,7 @@
 -- The branch instructions of the Intel manual in 32-bit mode: their encodings, and what they mean as a target.
-use Rattle.std.specs.Prelude.{ℕ, ◌+◌, ◌-◌, ◌*◌, ◌/◌, ◌%◌, ◌^◌, cond, List, [], ◌∷◌, ◌++◌, length, ℤ, pos, ◌+ℤ◌, ◌-ℤ◌, ◌==◌, nat_lt}
+use Rattle.std.specs.Prelude.{ℕ, ◌+◌, ◌-◌, ◌*◌, ◌^◌, cond, List, [], ◌∷◌, ◌++◌, length, ℤ, pos, ◌+ℤ◌, ◌-ℤ◌, ◌==◌, nat_lt}
 use Rattle.std.proofs.Common.{of_z}
-use Rattle.std.specs.Int.{int_max, int_min, w8, w32}
+use Rattle.std.specs.Int.{int_max, int_min, to_le_bytes, w8, w32}
 use Rattle.target.specs.Meaning.{Meaning, lowest, highest}
 use Rattle.target.specs.Table.{Table, tabled}
 use Rattle.x86.specs.declared.encodings.Encoding.{Encoding}
@@ -37,15 +37,11 @@ low e = int_max lowest (pos (size e) -ℤ pos (2 ^ (8 * width e - 1)))
 abbrev pub high : Encoding → ℤ
 high e = int_min highest (pos (size e) +ℤ pos (2 ^ (8 * width e - 1) - 1))
 
--- a number's four bytes, lowest first
-abbrev pub four_bytes : ℕ → List ℕ
-four_bytes n = n % 256 ∷ n / 256 % 256 ∷ n / 65536 % 256 ∷ n / 16777216 % 256 ∷ []
-
 -- the displacement in two's complement, lowest byte first
 abbrev pub stored : Encoding → ℤ → List ℕ
 stored (Short op) displacement = of_z w8 displacement ∷ []
-stored (Near op) displacement = four_bytes (of_z w32 displacement)
-stored (Escaped op) displacement = four_bytes (of_z w32 displacement)
+stored (Near op) displacement = to_le_bytes w32 (of_z w32 displacement)
+stored (Escaped op) displacement = to_le_bytes w32 (of_z w32 displacement)
 
 -- the instruction that stores a displacement, and the one that branches over a distance
 abbrev pub storing : Encoding → ℤ → List ℕ

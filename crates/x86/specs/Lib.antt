@@ -1,4 +1,3 @@
 pub mod Encodings
 pub mod Stores
 pub mod Laws
-pub mod Bytes

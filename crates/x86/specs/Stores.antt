@@ -1,18 +1,12 @@
 -- What the functions inside promise of encodings and displacements.
 use Rattle.std.specs.Prelude.{◌≡◌, ℕ, List, ℤ, Some, None, Option, FitsSigned, ◌≢◌}
 use Rattle.std.specs.Int.{w8, w32}
-use Rattle.target.specs.Table.{Spells, Unlisted, Unspelled, encoding}
+use Rattle.target.specs.declared.table.Spelled.{Spelled}
+use Rattle.target.specs.Table.{Spells, Unspelled}
 use Rattle.x86.specs.declared.encodings.Encoding.{Encoding}
 use Rattle.x86.specs.declared.encodings.Encoding.TheVariants.{Short, Near, Escaped}
-use Rattle.x86.specs.declared.encodings.Entry.{Entry}
-use Rattle.x86.specs.declared.layout.Instruction.{Instruction}
 use Rattle.x86.specs.declared.layout.Stored.{Stored}
 use Rattle.x86.specs.Encodings.{storing, table}
-
--- whose encoding this is: a kind and a form, or nobody's
-abbrev pub Entered : Encoding → Option Entry → Type 0
-Entered e None = Unlisted table e
-Entered e (Some entry) = encoding table entry.kind entry.form ≡ Some e
 
 -- a displacement that the encoding has room for
 abbrev pub InWidth : Encoding → ℤ → Type 0
@@ -26,6 +20,6 @@ Parted bs None = (e : Encoding) (z : ℤ) → storing e z ≢ bs
 Parted bs (Some s) = (storing s.encoding s.displacement ≡ bs) × InWidth s.encoding s.displacement
 
 -- the encoding and the distance that these bytes spell, or that they spell none
-abbrev pub Decoded : List ℕ → Option Instruction → Type 0
-Decoded bs None = Unspelled table bs
-Decoded bs (Some i) = Spells table bs i.encoding i.distance
+abbrev pub Spelling : List ℕ → Option (Spelled Encoding) → Type 0
+Spelling bs None = Unspelled table bs
+Spelling bs (Some s) = Spells table bs s.encoding s.distance

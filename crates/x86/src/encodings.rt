@@ -1,10 +1,10 @@
-// The table of branch instructions: which encodings each has, and their sizes and reaches.
-ghost use Rattle.std.specs.Prelude.{◌≡◌, length, MatchBool};
-ghost use Rattle.target.specs.Table.{Takes, encoding};
-ghost use Rattle.x86.specs.Encodings.{encodings, high as high_of, low as low_of, size as size_of, table};
-ghost use Rattle.x86.specs.Stores.{Entered};
+// The table of branch instructions: which encodings each has, their sizes and reaches, and whose each is.
+ghost use Rattle.x86.specs.Encodings.{table};
+ghost use Rattle.x86.specs.Laws.{extents};
 
-// The kinds after the sixteen conditional jumps, whose kind is their condition.
+use target::{Entry, Extent, Listed};
+
+// The kinds after the sixteen conditional jumps. A conditional jump's kind is the number that its opcodes add: an enum of kinds would hold that number and bound it again.
 const JMP: u32 = 16;
 
 const CALL: u32 = 17;
@@ -22,32 +22,51 @@ pub enum Encoding {
     Escaped(u8),
 }
 
-// A form of a kind.
-#[derive(Clone, Copy)]
-pub struct Entry {
-    pub kind: u32,
-    pub form: u32,
-}
+impl Extent for Encoding {
+    ghost table = { table };
 
-// How many encodings a kind has.
-pub fn forms(kind: u32) -> u32
-    ensures { result ≡ length (encodings kind) }
-{
-    match kind {
-        0..=15 | JMP => 2,
-        CALL | JECXZ => 1,
-        _ => 0,
+    ghost extents = { extents };
+
+    fn granule() -> u32 {
+        1
+    }
+
+    fn size(self) -> u32 {
+        match self {
+            Encoding::Short(_) => 2,
+            Encoding::Near(_) => 5,
+            Encoding::Escaped(_) => 6,
+        }
+    }
+
+    fn low(self) -> i32 {
+        match self {
+            Encoding::Short(_) => -126,
+            Encoding::Near(_) | Encoding::Escaped(_) => -33_554_432,
+        }
+    }
+
+    fn high(self) -> i32 {
+        match self {
+            Encoding::Short(_) => 129,
+            Encoding::Near(_) | Encoding::Escaped(_) => 33_554_431,
+        }
     }
 }
 
-impl Encoding {
-    // The encoding of a kind and a form.
-    pub fn of(kind: u32, form: u32) -> Option<Encoding>
-        ensures { result ≡ encoding table kind form }
-    {
-        match (kind, form) {
-            (0..=15, 0) => Some(Encoding::Short(0x70 + kind as u8)),
-            (0..=15, 1) => Some(Encoding::Escaped(0x80 + kind as u8)),
+impl Listed for Encoding {
+    fn forms(kind: u32) -> u32 {
+        match kind {
+            0..=15 | JMP => 2,
+            CALL | JECXZ => 1,
+            _ => 0,
+        }
+    }
+
+    fn of(entry: Entry) -> Option<Encoding> {
+        match (entry.kind, entry.form) {
+            (condition @ 0..=15, 0) => Some(Encoding::Short(0x70 + condition as u8)),
+            (condition @ 0..=15, 1) => Some(Encoding::Escaped(0x80 + condition as u8)),
             (JMP, 0) => Some(Encoding::Short(0xeb)),
             (JMP, 1) => Some(Encoding::Near(0xe9)),
             (CALL, 0) => Some(Encoding::Near(0xe8)),
@@ -56,68 +75,16 @@ impl Encoding {
         }
     }
 
-    // Its length in bytes.
-    pub fn size(self) -> u32
-        ensures { result ≡ size_of self }
-    {
-        match self {
-            Encoding::Short(_) => 2,
-            Encoding::Near(_) => 5,
-            Encoding::Escaped(_) => 6,
-        }
-    }
-
-    // The least distance that it reaches.
-    pub fn low(self) -> i32
-        ensures { result ≡ low_of self }
-    {
-        match self {
-            Encoding::Short(_) => -126,
-            Encoding::Near(_) | Encoding::Escaped(_) => -33_554_432,
-        }
-    }
-
-    // The greatest distance that it reaches.
-    pub fn high(self) -> i32
-        ensures { result ≡ high_of self }
-    {
-        match self {
-            Encoding::Short(_) => 129,
-            Encoding::Near(_) | Encoding::Escaped(_) => 33_554_431,
-        }
-    }
-
-    // Whether it can be written with a distance.
-    pub fn takes(self, distance: i32) -> bool
-        ensures { MatchBool result (Takes table self distance) (Takes table self distance → ⊥) }
-    {
-        self.low() <= distance && distance <= self.high()
-    }
-
-    // The kind and form whose encoding it is.
-    pub fn entry(self) -> Option<Entry>
-        ensures { Entered self result }
-    {
-        match self {
-            Encoding::Short(op @ 0x70..=0x7f) => Some(Entry {
-                kind: u32::from(op - 0x70),
-                form: 0,
-            }),
-            Encoding::Short(0xeb) => Some(Entry { kind: JMP, form: 0 }),
-            Encoding::Short(0xe3) => Some(Entry {
-                kind: JECXZ,
-                form: 0,
-            }),
-            Encoding::Near(0xe9) => Some(Entry { kind: JMP, form: 1 }),
-            Encoding::Near(0xe8) => Some(Entry {
-                kind: CALL,
-                form: 0,
-            }),
-            Encoding::Escaped(op @ 0x80..=0x8f) => Some(Entry {
-                kind: u32::from(op - 0x80),
-                form: 1,
-            }),
-            _ => None,
-        }
+    fn entry(self) -> Option<Entry> {
+        let (kind, form) = match self {
+            Encoding::Short(op @ 0x70..=0x7f) => (u32::from(op - 0x70), 0),
+            Encoding::Escaped(op @ 0x80..=0x8f) => (u32::from(op - 0x80), 1),
+            Encoding::Short(0xeb) => (JMP, 0),
+            Encoding::Near(0xe9) => (JMP, 1),
+            Encoding::Near(0xe8) => (CALL, 0),
+            Encoding::Short(0xe3) => (JECXZ, 0),
+            _ => return None,
+        };
+        Some(Entry { kind, form })
     }
 }

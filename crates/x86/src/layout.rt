@@ -4,17 +4,11 @@ ghost use Rattle.std.specs.Option.{SomeIff};
 ghost use Rattle.target.specs.Refusals.{Judged, refusal};
 ghost use Rattle.target.specs.Table.{Encoded, Takes, encode_table};
 ghost use Rattle.x86.specs.Encodings.{size as size_of, storing, table};
-ghost use Rattle.x86.specs.Stores.{Decoded, InWidth, Parted};
+ghost use Rattle.x86.specs.Laws.{laws};
+ghost use Rattle.x86.specs.Stores.{InWidth, Parted, Spelling};
 
 use crate::encodings::Encoding;
-use target::WriteFault;
-
-// An encoding, and the distance that it branches over.
-#[derive(Clone, Copy)]
-pub struct Instruction {
-    pub encoding: Encoding,
-    pub distance: i32,
-}
+use target::{Encode, Extent, Spelled, WriteFault};
 
 // An encoding, and the displacement that it stores.
 #[derive(Clone, Copy)]
@@ -23,50 +17,40 @@ struct Stored {
     displacement: i32,
 }
 
-// Puts an instruction at the front of `out`.
-fn put(encoding: Encoding, displacement: i32, out: &mut [u8])
-    requires stores { InWidth encoding displacement }
-    requires room { size_of encoding ≤ length out.old }
-    ensures { out.new ≡ storing encoding displacement ++ drop (size_of encoding) out.old }
-{
-    match encoding {
-        Encoding::Short(op) => {
-            out[0] = op;
-            out[1] = (displacement as i8).cast_unsigned();
-        }
-        Encoding::Near(op) => {
-            out[0] = op;
-            out[1..5].copy_from_slice(&displacement.to_le_bytes());
-        }
-        Encoding::Escaped(op) => {
-            out[0] = 0x0f;
-            out[1] = op;
-            out[2..6].copy_from_slice(&displacement.to_le_bytes());
+impl Stored {
+    // What an encoding stores for a distance.
+    fn of(spelled: Spelled<Encoding>) -> Stored
+        requires { Takes table spelled.encoding spelled.distance }
+        ensures { result ≡ record { encoding = spelled.encoding; displacement = spelled.distance -ℤ pos (size_of spelled.encoding) } }
+    {
+        Stored {
+            encoding: spelled.encoding,
+            displacement: spelled.distance - spelled.encoding.size() as i32,
         }
     }
-}
 
-// The displacement that an instruction stores for a distance.
-fn displacement(encoding: Encoding, distance: i32) -> i32
-    requires { Takes table encoding distance }
-    ensures { result ≡ distance -ℤ pos (size_of encoding) }
-{
-    distance - encoding.size() as i32
-}
-
-// Writes the instruction at the front of `out`, or refuses and leaves `out` as it was.
-pub fn encode(encoding: Encoding, distance: i32, out: &mut [u8]) -> Result<(), WriteFault>
-    ensures refuses { Judged (encode_table table encoding distance (length out.old)) (refusal result) }
-    ensures after { Encoded table encoding distance out.old result out.new }
-{
-    if !encoding.takes(distance) {
-        return Err(WriteFault::NotWritable);
+    // Puts the instruction at the front of `out`.
+    fn put(self, out: &mut [u8])
+        requires stores { InWidth self.encoding self.displacement }
+        requires room { size_of self.encoding ≤ length out.old }
+        ensures { out.new ≡ storing self.encoding self.displacement ++ drop (size_of self.encoding) out.old }
+    {
+        match self.encoding {
+            Encoding::Short(op) => {
+                out[0] = op;
+                out[1] = (self.displacement as i8).cast_unsigned();
+            }
+            Encoding::Near(op) => {
+                out[0] = op;
+                out[1..5].copy_from_slice(&self.displacement.to_le_bytes());
+            }
+            Encoding::Escaped(op) => {
+                out[0] = 0x0f;
+                out[1] = op;
+                out[2..6].copy_from_slice(&self.displacement.to_le_bytes());
+            }
+        }
     }
-    if out.len() < encoding.size() as usize {
-        return Err(WriteFault::OutputShort);
-    }
-    put(encoding, displacement(encoding, distance), out);
-    Ok(())
 }
 
 // The encoding and displacement of exactly these bytes, whatever their opcode.
@@ -90,23 +74,39 @@ fn take_apart(bytes: &[u8]) -> Option<Stored>
     }
 }
 
-// The instruction with this encoding and distance, where it can be written.
-fn within_reach(encoding: Encoding, distance: i32) -> Option<Instruction>
-    ensures { SomeIff result (Takes table encoding distance) (record { encoding = encoding; distance = distance }) }
+// An encoding and a distance, where the one can be written with the other.
+fn within_reach(spelled: Spelled<Encoding>) -> Option<Spelled<Encoding>>
+    ensures { SomeIff result (Takes table spelled.encoding spelled.distance) spelled }
 {
-    if encoding.takes(distance) {
-        Some(Instruction { encoding, distance })
-    } else {
-        None
-    }
+    spelled.takes().then_some(spelled)
 }
 
 // The encoding and distance of exactly these bytes, whatever their opcode.
-pub fn decode(bytes: &[u8]) -> Option<Instruction>
-    ensures { Decoded bytes.now result }
+fn decode(bytes: &[u8]) -> Option<Spelled<Encoding>>
+    ensures { Spelling bytes.now result }
 {
-    let stored = take_apart(bytes)?;
-    let encoding = stored.encoding;
-    let distance = stored.displacement.checked_add(encoding.size() as i32)?;
-    within_reach(encoding, distance)
+    let Stored {
+        encoding,
+        displacement,
+    } = take_apart(bytes)?;
+    let distance = displacement.checked_add(encoding.size() as i32)?;
+    within_reach(Spelled { encoding, distance })
+}
+
+impl Encode for Encoding {
+    ghost laws = { laws };
+
+    // The steps stand in each instruction set: shared, they would need a public call that puts, and no public call may ask that its caller has checked.
+    fn write(spelled: Spelled<Encoding>, out: &mut [u8]) -> Result<(), WriteFault>
+        ensures refuses { Judged (encode_table table spelled.encoding spelled.distance (length out.old)) (refusal result) }
+        ensures after { Encoded table spelled.encoding spelled.distance out.old result out.new }
+    {
+        spelled.check(out.len())?;
+        Stored::of(spelled).put(out);
+        Ok(())
+    }
+
+    fn decode(bytes: &[u8]) -> Option<Spelled<Encoding>> {
+        decode(bytes)
+    }
 }

@@ -2,24 +2,41 @@
 use crate::X86;
 use target::{Branch, Target, WriteFault, read_then_write, write_then_read};
 
+fn branch(kind: u32, form: u32, distance: i32) -> Branch {
+    Branch {
+        kind,
+        form,
+        distance,
+    }
+}
+
 #[test]
 fn short_memory_is_refused_and_left(rt: HostRuntime) {
     let mut out = [9u8; 4];
-    assert_eq!(rt; X86.write(16, 1, 0, &mut out), Err(WriteFault::OutputShort));
+    assert_eq!(rt;
+        X86.write(branch(16, 1, 0), &mut out),
+        Err(WriteFault::OutputShort)
+    );
     assert_eq!(rt; out, [9, 9, 9, 9]);
 }
 
 #[test]
 fn refusals_come_in_their_order(rt: HostRuntime) {
     let mut out = [9u8; 1];
-    assert_eq!(rt; X86.write(19, 0, 0, &mut out), Err(WriteFault::UnknownKind));
     assert_eq!(rt;
-        X86.write(16, 0, 130, &mut out),
+        X86.write(branch(19, 0, 0), &mut out),
+        Err(WriteFault::UnknownKind)
+    );
+    assert_eq!(rt;
+        X86.write(branch(16, 0, 130), &mut out),
         Err(WriteFault::NotWritable)
     );
-    assert_eq!(rt; X86.write(18, 1, 0, &mut out), Err(WriteFault::NotWritable));
     assert_eq!(rt;
-        X86.write(16, 0, 129, &mut out),
+        X86.write(branch(18, 1, 0), &mut out),
+        Err(WriteFault::NotWritable)
+    );
+    assert_eq!(rt;
+        X86.write(branch(16, 0, 129), &mut out),
         Err(WriteFault::OutputShort)
     );
     assert_eq!(rt; out, [9]);
@@ -28,19 +45,15 @@ fn refusals_come_in_their_order(rt: HostRuntime) {
 #[test]
 fn memory_after_the_branch_is_left(rt: HostRuntime) {
     let mut out = [9u8; 7];
-    assert_eq!(rt; X86.write(5, 1, 0, &mut out), Ok(()));
+    assert_eq!(rt; X86.write(branch(5, 1, 0), &mut out), Ok(()));
     assert_eq!(rt; out, [0x0f, 0x85, 0xfa, 0xff, 0xff, 0xff, 9]);
 }
 
 #[test]
 fn written_reads_back_and_read_writes_back(rt: HostRuntime) {
     let mut out = [0u8; 6];
-    let jump = Branch {
-        kind: 16,
-        form: 1,
-        distance: -2,
-    };
-    let read = write_then_read(&X86, jump.kind, jump.form, jump.distance, &mut out);
+    let jump = branch(16, 1, -2);
+    let read = write_then_read(&X86, jump, &mut out);
     assert!(rt; read == Ok(Some(jump)));
     let mut again = [0u8; 6];
     let written = read_then_write(&X86, &[0xe9, 0xf9, 0xff, 0xff, 0xff], &mut again);

@@ -1,10 +1,11 @@
-// The instructions that branches are made of, and the words that they are.
-ghost use Rattle.std.specs.Prelude.{◌≡◌};
+// The instructions that branches are made of, the words that they are, and the immediates that their words hold.
+ghost use Rattle.std.specs.Prelude.{◌≡◌, ◌*◌, ◌^◌, ◌<◌};
 ghost use Rattle.std.specs.Fn.{FnOnceReturnsAt, FnOnceTakesAt};
 ghost use Rattle.riscv.specs.declared.words.instructions.Instruction.TheVariants.{Auipc, Branch, Jal, Jalr};
 ghost use Rattle.riscv.specs.Instructions.{branch_format as branch_format_of, jump_format as jump_format_of, layout, reach as reach_of, size as size_of, word as word_of};
+ghost use Rattle.riscv.specs.Reading.{immediate as immediate_of, twos_complement};
 
-use super::{Field, bits, imm, pack};
+use super::{Field, bits, gather, imm, pack};
 use crate::conditions::Comparison;
 
 // An instruction without its immediate. Registers stand in the order in which they are written.
@@ -100,6 +101,19 @@ fn jalr(rd: u32, base: u32) -> [Field; 5]
     ]
 }
 
+// The number from minus the reach to below the reach whose two's complement this is.
+fn signed(bits: u32, reach: u32) -> i32
+    requires few { bits < 2 * reach }
+    requires small { reach < 2 ^ 30 }
+    ensures { result ≡ twos_complement reach bits }
+{
+    if bits < reach {
+        bits as i32
+    } else {
+        -((2 * reach - bits) as i32)
+    }
+}
+
 impl Instruction {
     // Its length in bytes.
     pub fn size(self) -> u32
@@ -129,7 +143,7 @@ impl Instruction {
     }
 
     // What `f` makes of its fields.
-    pub fn with_layout<F: FnOnce(&[Field]) -> u32>(self, f: F) -> u32
+    fn with_layout<F: FnOnce(&[Field]) -> u32>(self, f: F) -> u32
         requires { FnOnceTakesAt F.FnOnce f (layout self) }
         ensures { FnOnceReturnsAt F.FnOnce f (layout self) result }
     {
@@ -150,6 +164,14 @@ impl Instruction {
         ensures { result ≡ word_of self immediate }
     {
         self.with_layout(|fields| pack(fields, immediate))
+    }
+
+    // The immediate that its word holds.
+    pub fn immediate(self, word: u32) -> i32
+        ensures { result ≡ immediate_of self word }
+    {
+        let bits = self.with_layout(|fields| gather(fields, word));
+        signed(bits, self.reach())
     }
 }
 

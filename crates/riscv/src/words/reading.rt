@@ -1,9 +1,9 @@
-// Words taken apart: the instruction that a word can be, and the immediate that it holds.
-ghost use Rattle.std.specs.Prelude.{◌≡◌, ◌*◌, ◌^◌, ◌<◌, ◌≤◌};
+// Words taken apart: the instruction that a word can be, with the immediate that it then holds.
+ghost use Rattle.std.specs.Prelude.{◌≡◌, ◌<◌, ◌≤◌};
 ghost use Rattle.riscv.specs.Finding.{step};
-ghost use Rattle.riscv.specs.Reading.{cut as cut_of, half as half_of, immediate as immediate_of, twos_complement, whole as whole_of};
+ghost use Rattle.riscv.specs.Reading.{cut as cut_of, half as half_of, whole as whole_of};
 
-use super::{gather, low_bits};
+use super::low_bits;
 use crate::conditions::{Comparison, Condition};
 use crate::words::instructions::{Instruction, Step};
 
@@ -13,19 +13,6 @@ fn cut(word: u32, high: u32, low: u32) -> u32
     ensures { result ≡ cut_of word high low }
 {
     low_bits(word >> low, 1 + high - low)
-}
-
-// The number from minus the reach to below the reach whose two's complement this is.
-fn signed(bits: u32, reach: u32) -> i32
-    requires few { bits < 2 * reach }
-    requires small { reach < 2 ^ 30 }
-    ensures { result ≡ twos_complement reach bits }
-{
-    if bits < reach {
-        bits as i32
-    } else {
-        -((2 * reach - bits) as i32)
-    }
 }
 
 impl Instruction {
@@ -61,36 +48,30 @@ impl Instruction {
             _ => None,
         }
     }
-
-    // The immediate that its word holds.
-    fn immediate(self, word: u32) -> i32
-        ensures { result ≡ immediate_of self word }
-    {
-        let bits = self.with_layout(|fields| gather(fields, word));
-        signed(bits, self.reach())
-    }
 }
 
 impl Step {
+    // What a word holds, as the instruction that it can be.
+    fn of(instruction: Option<Instruction>, word: u32) -> Option<Step>
+        ensures { result ≡ step word instruction }
+    {
+        instruction.map(|instruction| Step {
+            instruction,
+            immediate: instruction.immediate(word),
+        })
+    }
+
     // What a word of 16 bits can be.
     pub fn half(word: u32) -> Option<Step>
         ensures { result ≡ step word (half_of word) }
     {
-        let instruction = Instruction::half(word)?;
-        Some(Step {
-            instruction,
-            immediate: instruction.immediate(word),
-        })
+        Step::of(Instruction::half(word), word)
     }
 
     // What a word of 32 bits can be.
     pub fn whole(word: u32) -> Option<Step>
         ensures { result ≡ step word (whole_of word) }
     {
-        let instruction = Instruction::whole(word)?;
-        Some(Step {
-            instruction,
-            immediate: instruction.immediate(word),
-        })
+        Step::of(Instruction::whole(word), word)
     }
 }

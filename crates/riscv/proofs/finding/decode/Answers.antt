@@ -1,20 +1,23 @@
 -- What is found and was written again spells the bytes, and nothing else that a kind has does.
-use Rattle.std.proofs.Common.{sym, ap, subst}
-use Rattle.target.specs.Table.{Spells}
-use Rattle.riscv.specs.declared.finding.Spelled.{Spelled}
+use Rattle.std.proofs.Common.{Bool, true, false, List, ℕ, Some, sym, refl, ap, subst}
+use Rattle.std.specs.Bool.{Decides, then_some}
+use Rattle.target.specs.Table.{Decoded, Spells}
+use Rattle.target.specs.declared.table.Spelled.{Spelled}
+use Rattle.riscv.specs.declared.encodings.Encoding.{Encoding}
 use Rattle.riscv.specs.Encodings.{table}
+use Rattle.riscv.specs.Finding.{FindsSpelling}
 use Rattle.riscv.specs.Apart.{some_same}
 use Rattle.riscv.proofs.finding.decode.Goals as goal
+
+module _ (bytes : List ℕ) (s : Spelled Encoding) (finds : FindsSpelling bytes (Some s)) where
+  tested : (b : Bool) → Decides b (Spells table bytes s.encoding s.distance) → Decoded table bytes (then_some b s)
+  tested true is = (is.0 refl, λ k f e d listed spells. sym (ap (λ (x : Spelled Encoding). x.encoding) (some_same (finds k f e d listed spells))))
+  tested false is = λ k f e d listed spells.
+      let yes = is.1 (subst (λ (x : Spelled Encoding). Spells table bytes x.encoding x.distance) (sym (some_same (finds k f e d listed spells))) spells) in
+      cc
 
 pub returns-in_err-found : goal.returns-in_err-found
 returns-in_err-found c = rw c.from_residual.ensures (λ k f e d is spells. let none = c.in_err-found.ensures k f e d is spells in cc)
 
-pub returns-then-spells : goal.returns-then-spells
-returns-then-spells c = (c.spells.ensures.0 c.if-spells.true, λ k f e d is spells. sym (ap (λ (s : Spelled). s.encoding) (some_same (c.in_ok-found.ensures k f e d is spells))))
-
-pub returns-else-spells : goal.returns-else-spells
-returns-else-spells c = λ k f e d is spells.
-    let found = some_same (c.in_ok-found.ensures k f e d is spells) in
-    let yes = c.spells.ensures.1 (subst (λ (s : Spelled). Spells table c.args.bytes.now s.encoding s.distance) (sym found) spells) in
-    let no = c.if-spells.false in
-    cc
+pub returns : goal.returns
+returns c = rw c.then_some.ensures (tested c.args.bytes.now c.in_ok-found.found c.in_ok-found.ensures c.spells.result c.spells.ensures)

@@ -1,26 +1,12 @@
 -- Bytes are those of the words that were read from them.
-use Rattle.std.proofs.Common.{◌≡◌, ℕ, ◌+◌, ◌<◌, List, [], ◌∷◌, ◌++◌, get_or, zero, suc, refl, sym, ap, ◌∙◌, arith, rules, w8, w32, Fits}
-use Rattle.std.specs.Int.{from_le_bytes, to_le_bytes}
+use Rattle.std.proofs.Common.{◌≡◌, ◌++◌, refl, sym, ap, ◌∙◌, arith, rules, w32}
+use Rattle.std.specs.Int.{to_le_bytes}
 use Rattle.std.proofs.lemmas.Nat.{le_bytes_2, le_bytes_4}
 use Rattle.std.proofs.lemmas.Slice.Eq.{text_from_reads}
+use Rattle.target.proofs.Bytes.{four, four_are}
 use Rattle.riscv.specs.Finding.{alone}
 use Rattle.riscv.proofs.Spelled.{half_found, two_found, whole_found}
 use Rattle.riscv.proofs.finding.spelling.Goals as goal
-
--- four bytes of a list, from the i-th on
-module _ (bytes : List ℕ) (typed : (j : ℕ) → Fits w8 (get_or bytes j 0)) (i : ℕ) where
-  abbrev four : List ℕ
-  four = get_or bytes i 0 ∷ get_or bytes (1 + i) 0 ∷ get_or bytes (2 + i) 0 ∷ get_or bytes (3 + i) 0 ∷ []
-
-  four_typed : (j : ℕ) → get_or four j 0 < 256
-  four_typed zero = (typed i).fits
-  four_typed (suc zero) = (typed (1 + i)).fits
-  four_typed (suc (suc zero)) = (typed (2 + i)).fits
-  four_typed (suc (suc (suc zero))) = (typed (3 + i)).fits
-  four_typed (suc (suc (suc (suc j)))) = omega arith
-
-  four_are : (n : ℕ) → n ≡ from_le_bytes w32 four → to_le_bytes w32 n ≡ four
-  four_are n is = le_bytes_4 four n refl four_typed is
 
 pub returns-in-len2 : goal.returns-in-len2
 returns-in-len2 c =

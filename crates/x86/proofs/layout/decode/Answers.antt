@@ -5,9 +5,9 @@ use Rattle.x86.proofs.layout.decode.Goals as goal
 
 pub returns-in_err-distance : goal.returns-in_err-distance
 returns-in_err-distance c =
-    let e = c.in_ok-stored.stored.encoding in
-    let z = c.in_ok-stored.stored.displacement in
-    let stored = c.in_ok-stored.ensures in
+    let e = c.in_ok-encoding.field-0.encoding in
+    let z = c.in_ok-encoding.field-0.displacement in
+    let stored = c.in_ok-encoding.ensures in
     let fits : SFits w32 z = search rules in
     let sum = sum_is e z c.size.result fits c.size.ensures in
     rw c.from_residual-in_err-distance.ensures
@@ -15,9 +15,9 @@ returns-in_err-distance c =
 
 pub returns : goal.returns
 returns c =
-    let e = c.in_ok-stored.stored.encoding in
-    let z = c.in_ok-stored.stored.displacement in
-    let stored = c.in_ok-stored.ensures in
+    let e = c.in_ok-encoding.field-0.encoding in
+    let z = c.in_ok-encoding.field-0.displacement in
+    let stored = c.in_ok-encoding.ensures in
     let fits : SFits w32 z = search rules in
     let is = distance_is e z c.in_ok-distance.distance c.size.result fits c.size.ensures c.in_ok-distance.ensures in
     decoded_by e z stored.0 stored.1 _ is c.within_reach.result c.within_reach.ensures

@@ -2,7 +2,7 @@
 use Rattle.std.proofs.Common.{◌≡◌, Some, ap, ◌∙◌, arith}
 use Rattle.std.proofs.lemmas.Grind.{common_steps}
 use Rattle.riscv.specs.Entries.{kind_is, kind_of}
-use Rattle.riscv.proofs.encodings.Encoding.entry.Goals as goal
+use Rattle.riscv.proofs.encodings.EncodingListed.entry.Goals as goal
 
 pub returns-in_err-number : goal.returns-in_err-number
 returns-in_err-number c =
