@@ -19,14 +19,14 @@ where
     }
 }
 
-// The number below 2^32 that a word of decimal digits writes.
+// The number below 2^32 that a word of decimal digits writes: in our words, what `number` reads at this type.
 pub fn unsigned(word: &[u8]) -> Option<u32>
     ensures { Found (Unsigned word.now) result }
 {
     number(word)
 }
 
-// The number of 32 bits that a word of decimal digits, or a minus and digits, writes.
+// The number of 32 bits that a word of decimal digits, or a minus and digits, writes: what `number` reads at that one.
 pub fn signed(word: &[u8]) -> Option<i32>
     ensures { Found (Signed word.now) result }
 {

@@ -32,7 +32,7 @@ fn branch_words(line: &[u8]) -> Option<Branch>
     })
 }
 
-// One word of hexadecimal digits.
+// One word of hexadecimal digits. The allocator stands beside the line here and in what follows, as the library's own calls take it: a pair would be made to be taken apart.
 fn hex_word(heap: Global, line: &[u8]) -> Result<Option<Vec<u8>>, AllocError>
     ensures { IfOk result (λ bytes. Found (HexWord (words line.now)) (option_map vec_items bytes)) }
 {

@@ -4,7 +4,7 @@ use Rattle.std.proofs.Common.{ap, ◌∙◌, inl, inr, ⊎_elim, arith, lit≤}
 use Rattle.std.specs.Int.Signed.{le_z_yes}
 use Rattle.std.proofs.lemmas.Int.{ints}
 use Rattle.std.proofs.lemmas.Bool.Decides.{nat_tests}
-use Rattle.target.specs.Table.{Bounded, ExtentLaws, TableLaws}
+use Rattle.target.specs.Table.{Bounded, ExtentLaws, KindLaws}
 use Rattle.target.proofs.Tables.{told_apart}
 use Rattle.riscv.specs.declared.encodings.Encoding.{Encoding}
 use Rattle.riscv.specs.declared.encodings.Encoding.TheVariants.{One, Far, Long}
@@ -50,5 +50,5 @@ size_grows k small large h there = grind (arith, nat_tests)
 pub extents : ExtentLaws table
 extents = record { granule_is = inr (inl refl); bounded = bounded }
 
-pub laws : TableLaws table
-laws = record { forms_most = forms_most; size_grows = size_grows; bytes_fill = λ e d takes. bytes_fill e d; bytes_apart = told_apart table Sound sound bytes_apart entries_apart }
+pub laws : KindLaws table
+laws = record { forms_most = forms_most; size_grows = size_grows; bytes_fill = λ e d takes. bytes_fill e d; branches_apart = told_apart table Sound sound bytes_apart entries_apart }

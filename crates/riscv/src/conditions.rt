@@ -22,7 +22,7 @@ impl Condition {
         self as u32
     }
 
-    // The condition with this funct3: no `TryFrom`, since it has another number too, its place among the kinds.
+    // The condition with this funct3: no `TryFrom`, since a condition has another number too, its place among the kinds, and callers and specs/ speak of funct3.
     pub fn of(funct3: u32) -> Option<Condition>
         ensures { result ≡ condition_of funct3 }
     {
@@ -67,8 +67,7 @@ impl Comparison {
     {
         Comparison {
             condition: self.condition.inverse(),
-            first: self.first,
-            second: self.second,
+            ..self
         }
     }
 }

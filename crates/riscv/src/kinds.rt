@@ -44,7 +44,7 @@ fn comparison(number: u32) -> Option<Comparison>
     })
 }
 
-// The place of a condition among them: a match, since a search of the list would answer an `Option`, and every condition is in it.
+// The place of a condition among them: a match, since a search of the list would answer an `Option`, and that its `None` never comes would have to be shown.
 fn place(condition: Condition) -> u32
     ensures few { result < 6 }
     ensures at { slice_get conditions result ≡ Some condition }
@@ -99,7 +99,7 @@ impl TryFrom<u32> for Kind {
 }
 
 impl Kind {
-    // Its number, if it has one: an `Option`, since a kind with a register past x31 has none, and the one caller would drop the error of a `TryFrom`.
+    // Its number, if it has one: no `From`, since a kind with a register past x31 has none.
     pub fn number(self) -> Option<u32>
         ensures { Numbered self result }
     {

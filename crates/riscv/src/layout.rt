@@ -42,6 +42,7 @@ fn put_one(step: Step, out: &mut [u8])
     requires { instruction_size step.instruction ≤ length out.old }
     ensures { out.new ≡ stored step.instruction step.immediate ++ drop (instruction_size step.instruction) out.old }
 {
+    // a word has four bytes; an instruction of 16 bits is the first two
     let bytes = step.instruction.word(step.immediate).to_le_bytes();
     let size = step.instruction.size() as usize;
     out[..size].copy_from_slice(&bytes[..size]);
@@ -100,7 +101,8 @@ fn put(spelled: Spelled<Encoding>, out: &mut [u8])
 impl Encode for Encoding {
     ghost laws = { laws };
 
-    // The steps stand in each instruction set: shared, they would need a public call that puts, and no public call may ask that its caller has checked.
+    // The steps stand in each instruction set: shared, they would need a public call that puts. None may ask that its caller has checked, and one that asks nothing would have to check again.
+    // The clauses are the trait's: the check does not yet give them to a method that takes a `Spelled<Self>`.
     fn write(spelled: Spelled<Encoding>, out: &mut [u8]) -> Result<(), WriteFault>
         ensures refuses { Judged (encode_table table spelled.encoding spelled.distance (length out.old)) (refusal result) }
         ensures after { Encoded table spelled.encoding spelled.distance out.old result out.new }
@@ -110,6 +112,7 @@ impl Encode for Encoding {
         Ok(())
     }
 
+    // Reading stands in a file of its own.
     fn decode(bytes: &[u8]) -> Option<Spelled<Encoding>> {
         finding::decode(bytes)
     }

@@ -7,7 +7,7 @@ ghost use Rattle.riscv.specs.Words.{InWord, Laid, held, number, width as width_o
 pub mod instructions;
 pub mod reading;
 
-// A field of a word. `InWord` is asked by a `requires`: a ghost field would put a proof into every field that specs/ writes.
+// A field of a word. `InWord` is asked by a `requires`: a ghost field would put a proof into every field of the formats in specs/, which are laid beside the manual's.
 #[derive(Clone, Copy)]
 pub enum Field {
     // so many bits, which hold this number

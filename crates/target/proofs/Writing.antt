@@ -7,6 +7,7 @@ use Rattle.std.proofs.lemmas.List.{take_at}
 use Rattle.std.proofs.lemmas.Int.{by_lt_z}
 use Rattle.std.proofs.lemmas.Bool.{cases_lt}
 use Rattle.target.specs.declared.interface.Branch.{Branch}
+use Rattle.target.specs.declared.interface.Entry.{Entry}
 use Rattle.target.specs.Meaning.{Meaning, Lawful, Writable}
 use Rattle.target.specs.Refusals.{Judged, Reading, write_table}
 
@@ -38,6 +39,10 @@ module _ (m : Meaning) (b : Branch) where
   not_refused w enough (inr (none, inl h)) = h.0 w
   not_refused w enough (inr (none, inr (taken, inl h))) = omega (arith, h.0)
   not_refused w enough (inr (none, inr (taken, inr h))) = let z : ◌≡◌ {A = ℕ} 0 1 = let e = h.1 in cc in absurd (omega arith)
+
+  -- the size of the branch's form, asked by its kind and form
+  pub sized : (entry : Entry) (n : ℕ) → entry ≡ record { kind = b.kind; form = b.form } → n ≡ m.size entry.kind entry.form → n ≡ m.size b.kind b.form
+  sized entry n at is = is ∙ ap (λ (x : Entry). m.size x.kind x.form) at
 
   read_back : Lawful m → Writable m b.kind b.form b.distance → (answer : Option Branch) → Reading m (m.bytes b.kind b.form b.distance) answer → answer ≡ Some b
   read_back laws w None none = absurd (none b (record { is_writable = w; has_bytes = refl }))

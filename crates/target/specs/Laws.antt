@@ -3,7 +3,7 @@ use Rattle.std.specs.Prelude.{◌≡◌, ℕ, ◌%◌, ◌≤◌, [], length, �
 use Rattle.std.proofs.Common.{sym, ap, ◌∙◌, subst, ⊎_elim, arith}
 use Rattle.std.proofs.lemmas.Option.{slice_get_cases, slice_get_past}
 use Rattle.target.specs.Meaning.{Exists, Lawful, Writable, highest, lowest}
-use Rattle.target.specs.Table.{ExtentLaws, Table, TableLaws, Takes, encoding, of_form, tabled}
+use Rattle.target.specs.Table.{ExtentLaws, Table, KindLaws, Takes, encoding, of_form, tabled}
 
 module _ {E : Type 0} (t : Table E) where
   -- a form that exists has an encoding
@@ -29,12 +29,12 @@ module _ {E : Type 0} (t : Table E) where
     pub size_by : (tabled t).size k f ≡ t.size e
     size_by = ap (of_form 0 t.size) is
 
-  module _ (extents : ExtentLaws t) (laws : TableLaws t) where
+  module _ (extents : ExtentLaws t) (laws : KindLaws t) where
     apart : (k k' f f' : ℕ) (d d' : ℤ) → Writable (tabled t) k f d → Writable (tabled t) k' f' d' → (tabled t).bytes k f d ≡ (tabled t).bytes k' f' d' → (k ≡ k') × (f ≡ f') × (d ≡ d')
     apart k k' f f' d d' w w' same =
         let e = encoded k f w.is_there in
         let e' = encoded k' f' w'.is_there in
-        laws.bytes_apart k k' f f' e.0 e'.0 d d' e.1 e'.1 (taken_by k f d e.0 e.1 w) (taken_by k' f' d' e'.0 e'.1 w') (sym (bytes_by k f d e.0 e.1) ∙ same ∙ bytes_by k' f' d' e'.0 e'.1)
+        laws.branches_apart k k' f f' e.0 e'.0 d d' e.1 e'.1 (taken_by k f d e.0 e.1 w) (taken_by k' f' d' e'.0 e'.1 w') (sym (bytes_by k f d e.0 e.1) ∙ same ∙ bytes_by k' f' d' e'.0 e'.1)
 
     pub tabled_lawful : Lawful (tabled t)
     tabled_lawful = record {

@@ -93,9 +93,9 @@ pub record ExtentLaws {E : Type 0} (t : Table E) : Type 0 where
   pub granule_is : (t.granule ≡ 1) ⊎ ((t.granule ≡ 2) ⊎ (t.granule ≡ 4))
   pub bounded : (e : E) → Bounded t e
 
--- what is asked of a table besides: the encodings of a kind grow, and bytes tell the encodings of kinds apart
-pub record TableLaws {E : Type 0} (t : Table E) : Type 0 where
+-- what is asked of the encodings of kinds: those of one grow, and bytes tell those of all apart
+pub record KindLaws {E : Type 0} (t : Table E) : Type 0 where
   pub forms_most : (k : ℕ) → length (t.encodings k) ≤ 4
   pub size_grows : (k small large : ℕ) → small < large → large < length (t.encodings k) → (tabled t).size k small < (tabled t).size k large
   pub bytes_fill : (e : E) (d : ℤ) → Takes t e d → length (t.bytes e d) ≡ t.size e
-  pub bytes_apart : (k k' f f' : ℕ) (e e' : E) (d d' : ℤ) → encoding t k f ≡ Some e → encoding t k' f' ≡ Some e' → Takes t e d → Takes t e' d' → t.bytes e d ≡ t.bytes e' d' → (k ≡ k') × (f ≡ f') × (d ≡ d')
+  pub branches_apart : (k k' f f' : ℕ) (e e' : E) (d d' : ℤ) → encoding t k f ≡ Some e → encoding t k' f' ≡ Some e' → Takes t e d → Takes t e' d' → t.bytes e d ≡ t.bytes e' d' → (k ≡ k') × (f ≡ f') × (d ≡ d')

@@ -1,7 +1,7 @@
 // Targets given by a table: what an instruction set gives of its encodings, and the target that this makes.
 ghost use Rattle.std.specs.Prelude.{◌≡◌, length, MatchBool};
 ghost use Rattle.target.specs.Refusals.{Judged, refusal};
-ghost use Rattle.target.specs.Table.{Decoded, Encoded, Entered, ExtentLaws, Table, TableLaws, Takes, encode_table, encoding, tabled};
+ghost use Rattle.target.specs.Table.{Decoded, Encoded, Entered, ExtentLaws, Table, KindLaws, Takes, encode_table, encoding, tabled};
 ghost use Rattle.target.specs.Laws.{tabled_lawful};
 
 use crate::interface::{Branch, Entry, Target, WriteFault};
@@ -86,7 +86,7 @@ pub trait Encode: Listed {
     fn decode(bytes: &[u8]) -> Option<Spelled<Self>>
         ensures { Decoded Self.table bytes.now result };
 
-    ghost laws: { TableLaws Self.table };
+    ghost laws: { KindLaws Self.table };
 }
 
 // An instruction set given by the table of its encodings.

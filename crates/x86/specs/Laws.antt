@@ -7,7 +7,7 @@ use mir.ValLaws.{of_z_fits}
 use Rattle.std.proofs.lemmas.Int.{ints, to_z-of_z}
 use Rattle.std.proofs.lemmas.Nat.{from_le_bytes-to_le_bytes_4}
 use Rattle.std.proofs.lemmas.Bool.Decides.{nat_tests}
-use Rattle.target.specs.Table.{Bounded, ExtentLaws, TableLaws, Takes, encoding}
+use Rattle.target.specs.Table.{Bounded, ExtentLaws, KindLaws, Takes, encoding}
 use Rattle.target.proofs.Tables.{told_apart}
 use Rattle.x86.specs.declared.encodings.Encoding.{Encoding}
 use Rattle.x86.specs.declared.encodings.Encoding.TheVariants.{Short, Near, Escaped}
@@ -71,10 +71,10 @@ bytes_apart e e' d d' takes takes' same =
     let parts = storing_apart e e' _ _ (in_width e d takes) (in_width e' d' takes') same in
     (parts.0, omega (arith, ints, parts.1, ap size parts.0))
 
-pub laws : TableLaws table
+pub laws : KindLaws table
 laws = record {
   forms_most = forms_most;
   size_grows = size_grows;
   bytes_fill = λ e d takes. bytes_fill e d;
-  bytes_apart = told_apart table (λ e. Unit {0}) (λ k f e is. tt) (λ e e' d d' s s'. bytes_apart e e' d d') entries_apart;
+  branches_apart = told_apart table (λ e. Unit {0}) (λ k f e is. tt) (λ e e' d d' s s'. bytes_apart e e' d d') entries_apart;
 }

@@ -4,7 +4,7 @@ ghost use Rattle.x86.specs.Laws.{extents};
 
 use target::{Entry, Extent, Listed};
 
-// The kinds after the sixteen conditional jumps. A conditional jump's kind is the number that its opcodes add: an enum of kinds would hold that number and bound it again.
+// The kinds after the sixteen conditional jumps. A conditional jump's kind is the number that its opcodes add: an enum of kinds would have sixteen cases more, or hold that number and bound it again.
 const JMP: u32 = 16;
 
 const CALL: u32 = 17;

@@ -96,7 +96,8 @@ fn decode(bytes: &[u8]) -> Option<Spelled<Encoding>>
 impl Encode for Encoding {
     ghost laws = { laws };
 
-    // The steps stand in each instruction set: shared, they would need a public call that puts, and no public call may ask that its caller has checked.
+    // The steps stand in each instruction set: shared, they would need a public call that puts. None may ask that its caller has checked, and one that asks nothing would have to check again.
+    // The clauses are the trait's: the check does not yet give them to a method that takes a `Spelled<Self>`.
     fn write(spelled: Spelled<Encoding>, out: &mut [u8]) -> Result<(), WriteFault>
         ensures refuses { Judged (encode_table table spelled.encoding spelled.distance (length out.old)) (refusal result) }
         ensures after { Encoded table spelled.encoding spelled.distance out.old result out.new }

@@ -1,7 +1,6 @@
 -- The bytes of a taken write are the front of the memory that it wrote.
-use Rattle.std.proofs.Common.{ap, ◌∙◌, arith}
-use Rattle.target.specs.declared.interface.Entry.{Entry}
-use Rattle.target.proofs.Writing.{front_is, taken_writable}
+use Rattle.std.proofs.Common.{◌∙◌, arith}
+use Rattle.target.proofs.Writing.{front_is, sized, taken_writable}
 use Rattle.query.proofs.answers.write.Goals as goal
 
 pub returns-in_ok-from_slice-in-Ok : goal.returns-in_ok-from_slice-in-Ok
@@ -11,5 +10,5 @@ returns-in_ok-from_slice-in-Ok g c =
     let b = c.args.branch in
     let wrote = c.in-Ok.ensures in
     let writable = taken_writable m b 16 (omega arith) wrote.refuses in
-    let long = c.size-size.ensures ∙ ap (λ (x : Entry). m.size x.kind x.form) c.entry.ensures in
+    let long = sized m b c.entry.result c.size-size.result c.entry.ensures c.size-size.ensures in
     (writable, c.in_ok-from_slice-in-Ok.ensures.items ∙ front_is m b laws writable c.size-size.result _ _ long wrote.after)
