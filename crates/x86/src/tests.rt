@@ -1,20 +1,12 @@
 // What the program `branch`, which always has room, cannot show: short memory, and memory that is left alone.
 use crate::X86;
-use target::{Branch, Target, WriteFault, read_then_write, write_then_read};
-
-fn branch(kind: u32, form: u32, distance: i32) -> Branch {
-    Branch {
-        kind,
-        form,
-        distance,
-    }
-}
+use target::{Entry, Target, WriteFault, read_then_write, write_then_read};
 
 #[test]
 fn short_memory_is_refused_and_left(rt: HostRuntime) {
     let mut out = [9u8; 4];
     assert_eq!(rt;
-        X86.write(branch(16, 1, 0), &mut out),
+        X86.write(Entry { kind: 16, form: 1 }.over(0), &mut out),
         Err(WriteFault::OutputShort)
     );
     assert_eq!(rt; out, [9, 9, 9, 9]);
@@ -24,19 +16,19 @@ fn short_memory_is_refused_and_left(rt: HostRuntime) {
 fn refusals_come_in_their_order(rt: HostRuntime) {
     let mut out = [9u8; 1];
     assert_eq!(rt;
-        X86.write(branch(19, 0, 0), &mut out),
+        X86.write(Entry { kind: 19, form: 0 }.over(0), &mut out),
         Err(WriteFault::UnknownKind)
     );
     assert_eq!(rt;
-        X86.write(branch(16, 0, 130), &mut out),
+        X86.write(Entry { kind: 16, form: 0 }.over(130), &mut out),
         Err(WriteFault::NotWritable)
     );
     assert_eq!(rt;
-        X86.write(branch(18, 1, 0), &mut out),
+        X86.write(Entry { kind: 18, form: 1 }.over(0), &mut out),
         Err(WriteFault::NotWritable)
     );
     assert_eq!(rt;
-        X86.write(branch(16, 0, 129), &mut out),
+        X86.write(Entry { kind: 16, form: 0 }.over(129), &mut out),
         Err(WriteFault::OutputShort)
     );
     assert_eq!(rt; out, [9]);
@@ -45,14 +37,17 @@ fn refusals_come_in_their_order(rt: HostRuntime) {
 #[test]
 fn memory_after_the_branch_is_left(rt: HostRuntime) {
     let mut out = [9u8; 7];
-    assert_eq!(rt; X86.write(branch(5, 1, 0), &mut out), Ok(()));
+    assert_eq!(rt;
+        X86.write(Entry { kind: 5, form: 1 }.over(0), &mut out),
+        Ok(())
+    );
     assert_eq!(rt; out, [0x0f, 0x85, 0xfa, 0xff, 0xff, 0xff, 9]);
 }
 
 #[test]
 fn written_reads_back_and_read_writes_back(rt: HostRuntime) {
     let mut out = [0u8; 6];
-    let jump = branch(16, 1, -2);
+    let jump = Entry { kind: 16, form: 1 }.over(-2);
     let read = write_then_read(&X86, jump, &mut out);
     assert!(rt; read == Ok(Some(jump)));
     let mut again = [0u8; 6];
