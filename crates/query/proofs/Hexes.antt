@@ -1,17 +1,22 @@
 -- Hexadecimal words, one byte at a time.
-use Rattle.std.proofs.Common.{Vec, Global, vec_items, ◌≡◌, ℕ, suc, ◌+◌, ◌-◌, ◌*◌, ◌/◌, ◌%◌, ◌^◌, ◌<◌, ◌≤◌, Bool, true, false, cond, ◌&&◌, nat_lt, List, [], ◌∷◌, ◌++◌, length, get_or, Some, None, Option, Ok, Err, is_ok, Result, MatchResult, ⊎_elim, sym, refl, ap, ◌∙◌, arith}
-use Rattle.std.proofs.lemmas.Fmt.{hex_byte}
+use Rattle.std.proofs.Common.{Vec, Global, vec_items, ◌≡◌, ℕ, suc, slice_set, ◌+◌, ◌-◌, ◌*◌, ◌/◌, ◌%◌, ◌^◌, ◌<◌, ◌≤◌, Bool, true, false, cond, ◌&&◌, nat_lt, List, [], ◌∷◌, length, take, get_or, Some, None, Option, Ok, Err, is_ok, Result, MatchResult, ⊎_elim, sym, refl, ap, ◌∙◌, arith}
 use Rattle.std.proofs.lemmas.Bool.{cases_eq, cases_lt, cond-true, cond-false, lt-ltb, le-ltb}
+use Rattle.std.proofs.lemmas.List.{flat_map_more, take_more}
+use Rattle.std.proofs.lemmas.Bool.Decides.{nat_tests}
+use Rattle.std.proofs.lemmas.Str.{IsUtf8-from_ascii}
 use Rattle.std.specs.Bool.{then_some}
-use Rattle.std.specs.Fmt.{digits, format_spec, padded_integral}
-use Rattle.std.specs.List.{flat_map}
+use Rattle.std.specs.List.{AllPass}
 use Rattle.std.specs.Option.{option_map}
 use Rattle.std.specs.Result.{result_ok}
-use Rattle.std.specs.Char.{digit_value}
-use Rattle.hex.specs.Hex.{decode_pairs, decode_sized, digit_or_error, hex_digit_value, ◌>>=◌}
+use Rattle.std.specs.Char.{digit_char, digit_value, is_ascii_hexdigit}
+use Rattle.std.specs.Prelude.{IsOk}
+use Rattle.std.proofs.lemmas.Str.Ascii.{IsAscii-cons, IsAscii-nil}
+use Rattle.std.specs.Str.{IsAscii, IsUtf8}
+use Rattle.hex.specs.Hex.{decode_pairs, decode_sized, digit_or_error, hex_digit_value, is_hex_digit, ◌>>=◌}
 use Rattle.hex.specs.declared.error.FromHexError.{FromHexError}
 use Rattle.hex.specs.declared.error.FromHexError.TheVariants.{OddLength}
-use Rattle.hex.proofs.Pairs.{decode_sized-pairs}
+use Rattle.hex.proofs.HexLemmas.{IsOk-decode_sized}
+use Rattle.hex.proofs.Pairs.{decode_sized-pairs, take-two_writes}
 use Rattle.query.specs.Words.{hex, two_digits, unhex}
 
 -- a digit is one of the library's, of the same value
@@ -67,6 +72,10 @@ decoded_is word =
     (λ even. ap result_ok (decode_sized-pairs word (length word / 2) (omega arith) refl) ∙ pairs_are 0 word)
     (cases_eq (length word % 2) 1)
 
+none_from : {X : Type 0} (o : Option X) → ((x : X) → o ≡ Some x → ⊥) → o ≡ None
+none_from None not = refl
+none_from (Some x) not = absurd (not x refl)
+
 -- what is left in memory after decoding into it
 pub written_is : (d : Result (List ℕ) FromHexError) (r : Result (Unit {0}) FromHexError) (out : List ℕ) → MatchResult d (λ bs. (r ≡ Ok tt) × (out ≡ bs)) (λ e. r ≡ Err e) → then_some (is_ok r) out ≡ result_ok d
 written_is (Ok bs) r out h = rw h.0 (ap Some h.1)
@@ -76,14 +85,37 @@ pub then_some_items : (b : Bool) (v : Vec ℕ Global) → option_map vec_items (
 then_some_items true v = refl
 then_some_items false v = refl
 
--- a byte as `{:02x}` writes it
-abbrev pub printed : ℕ → List ℕ
-printed b = padded_integral (format_spec 32 0 4 2 (2 ^ 64 - 1)) false [] (digits 16 false b)
+-- what a word writes has its digits alone
+passes : (c : ℕ) → is_hex_digit c ≡ true → is_ascii_hexdigit c ≡ true
+passes c digit = grind (arith, nat_tests)
+
+decodes : {X E : Type 0} (r : Result X E) (x : X) → result_ok r ≡ Some x → IsOk r
+decodes (Ok y) x is = refl
+decodes (Err e) x is = cc is
+
+digits_of : (word bytes : List ℕ) → unhex word ≡ Some bytes → AllPass is_ascii_hexdigit word
+digits_of word bytes is = λ k d lt. passes (get_or word k d) (((IsOk-decode_sized word (length word / 2)).0 (decodes _ bytes (decoded_is word ∙ is))).1 k d lt)
+
+pub unhex_none : (word : List ℕ) → ¬ (AllPass is_ascii_hexdigit word) → unhex word ≡ None
+unhex_none word not = none_from (unhex word) (λ bytes is. not (digits_of word bytes is))
 
 -- every number is a byte
 abbrev pub AreBytes : List ℕ → Type 0
 AreBytes bytes = (k : ℕ) → get_or bytes k 0 < 2 ^ 8
 
-pub all_printed : (bytes : List ℕ) → AreBytes bytes → flat_map printed bytes ≡ hex bytes
-all_printed [] are = refl
-all_printed (b ∷ bs) are = ap (λ ds. ds ++ flat_map printed bs) (hex_byte false b (are 0)) ∙ ap (λ ds. two_digits b ++ ds) (all_printed bs (λ k. are (suc k)))
+-- the digits of a byte more
+pub filled_more : (bytes room : List ℕ) (i high low : ℕ) → i < length bytes → 2 * i + 1 < length room → high ≡ digit_char (get_or bytes i 0 / 16) → low ≡ digit_char (get_or bytes i 0 % 16) → take (2 * i) room ≡ hex (take i bytes) → take (2 * (i + 1)) (slice_set (slice_set room (2 * i) high) (2 * i + 1) low) ≡ hex (take (i + 1) bytes)
+filled_more bytes room i high low within fits h l so_far =
+    let two : 2 * (i + 1) ≡ 2 * i + 2 = omega arith in
+    let front = take-two_writes room (2 * i) high low fits in
+    rw (two, front, so_far, h, l, take_more bytes i 0 within) (flat_map_more two_digits [] (take i bytes) (get_or bytes i 0))
+
+digit_ascii : (d : ℕ) → d < 16 → digit_char d < 128
+digit_ascii d small = grind arith
+
+hex_ascii : (bytes : List ℕ) → AreBytes bytes → IsAscii (hex bytes)
+hex_ascii [] are = IsAscii-nil
+hex_ascii (b ∷ bs) are = IsAscii-cons (digit_char (b / 16)) (digit_char (b % 16) ∷ hex bs) (digit_ascii (b / 16) (omega (arith, are 0))) (IsAscii-cons (digit_char (b % 16)) (hex bs) (digit_ascii (b % 16) (omega arith)) (hex_ascii bs (λ k. are (suc k))))
+
+pub hex_text : (bytes : List ℕ) → AreBytes bytes → IsUtf8 (hex bytes)
+hex_text bytes are = IsUtf8-from_ascii (hex bytes) (hex_ascii bytes are)

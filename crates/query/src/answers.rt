@@ -1,8 +1,11 @@
 // The answer to a question, for any target, and its text.
-ghost use Rattle.std.specs.Prelude.{Some};
+ghost use Rattle.std.specs.Prelude.{Some, ◌≡◌, ◌*◌, ◌<◌, ◌≤◌, length, take};
+ghost use Rattle.std.specs.Char.{digit_char};
+ghost use Rattle.std.specs.Fmt.{WritesOnOk};
 ghost use Rattle.std.specs.Result.{MatchResult};
 ghost use Rattle.query.specs.Answers.{Answered, TakesMemory, text};
 ghost use Rattle.query.specs.Queries.{question, write as writing};
+ghost use Rattle.query.specs.Words.{hex as hex_of};
 
 use crate::queries::Query;
 use std::alloc::{AllocError, Global};
@@ -19,17 +22,59 @@ pub enum Answer {
     Read(Option<Branch>),
 }
 
+// A hexadecimal digit, in lower case: by hand, since the library writes a byte's digits by a call of the formatter for each byte.
+fn digit(value: u8) -> u8
+    requires { value < 16 }
+    ensures { result ≡ digit_char value }
+{
+    if value < 10 {
+        b'0' + value
+    } else {
+        b'a' - 10 + value
+    }
+}
+
+// The digits of bytes that are no more than the longest form has, at the front.
+fn digits(bytes: &[u8]) -> [u8; 2 * LONGEST]
+    requires { length bytes.now ≤ LONGEST }
+    ensures { take (2 * length bytes.now) result ≡ hex_of bytes.now }
+{
+    let mut digits = [0; 2 * LONGEST];
+    for (i, b) in bytes.iter().enumerate() {
+        digits[2 * i] = digit(b / 16);
+        digits[2 * i + 1] = digit(b % 16);
+    }
+    digits
+}
+
+// Prints so many bytes by one call: a call for each made a reply cost half as much again.
+fn print_piece<W: fmt::Write>(f: &mut fmt::Formatter<W>, bytes: &[u8]) -> fmt::Result
+    requires { length bytes.now ≤ LONGEST }
+    ensures { WritesOnOk W.write_str_gives f.old result (hex_of bytes.now) f.new }
+{
+    let digits = digits(bytes);
+    let Ok(text) = std::str::from_utf8(&digits[..2 * bytes.len()]) else {
+        unreachable!();
+    };
+    f.write_str(text)
+}
+
+// Prints bytes in hexadecimal, however many there are.
+fn print_hex<W: fmt::Write>(f: &mut fmt::Formatter<W>, bytes: &[u8]) -> fmt::Result
+    ensures { WritesOnOk W.write_str_gives f.old result (hex_of bytes.now) f.new }
+{
+    for piece in bytes.chunks(LONGEST) {
+        print_piece(f, piece)?;
+    }
+    Ok(())
+}
+
 impl fmt::Display for Answer {
     ghost output = { λ a. Some (text a) };
 
     fn fmt<W: fmt::Write>(&self, f: &mut fmt::Formatter<W>) -> fmt::Result {
         match self {
-            Answer::Written(Ok(bytes)) => {
-                for b in bytes {
-                    write!(f, "{b:02x}")?;
-                }
-                Ok(())
-            }
+            Answer::Written(Ok(bytes)) => print_hex(f, bytes.as_slice()),
             Answer::Written(Err(fault)) => write!(f, "refused {}", fault.code()),
             Answer::Read(Some(branch)) => write!(
                 f,

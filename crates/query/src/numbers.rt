@@ -1,5 +1,7 @@
 // What single words write: numbers, and bytes in hexadecimal.
-ghost use Rattle.std.specs.Prelude.{◌≡◌, IfOk, vec_items};
+ghost use Rattle.std.specs.Prelude.{◌≡◌, MatchBool, MatchResult, vec_items};
+ghost use Rattle.std.specs.Char.{is_ascii_hexdigit};
+ghost use Rattle.std.specs.List.{AllPass};
 ghost use Rattle.std.specs.Option.{option_map};
 ghost use Rattle.query.specs.Queries.{Found, Parsed, Signed, Unsigned};
 ghost use Rattle.query.specs.Words.{unhex};
@@ -23,20 +25,30 @@ where
 pub fn unsigned(word: &[u8]) -> Option<u32>
     ensures { Found (Unsigned word.now) result }
 {
-    number(word)
+    number::<u32>(word)
 }
 
 // The number of 32 bits that a word of decimal digits, or a minus and digits, writes: what `number` reads at that one.
 pub fn signed(word: &[u8]) -> Option<i32>
     ensures { Found (Signed word.now) result }
 {
-    number(word)
+    number::<i32>(word)
 }
 
-// The bytes that a word of hexadecimal digits writes, in either case of the letters.
-pub fn read_hex(heap: Global, word: &[u8]) -> Result<Option<Vec<u8>>, AllocError>
-    ensures { IfOk result (λ bytes. option_map vec_items bytes ≡ unhex word.now) }
+// Whether a word has hexadecimal digits alone.
+fn all_digits(word: &[u8]) -> bool
+    ensures { MatchBool result (AllPass is_ascii_hexdigit word.now) (¬ (AllPass is_ascii_hexdigit word.now)) }
 {
+    word.iter().all(|c| c.is_ascii_hexdigit())
+}
+
+// The bytes that a word of hexadecimal digits writes, in either case of the letters. A word with another byte asks nothing of the heap.
+pub fn read_hex(heap: Global, word: &[u8]) -> Result<Option<Vec<u8>>, AllocError>
+    ensures { MatchResult result (λ bytes. option_map vec_items bytes ≡ unhex word.now) (λ _. AllPass is_ascii_hexdigit word.now) }
+{
+    if !all_digits(word) {
+        return Ok(None);
+    }
     let mut bytes = vec![in heap; 0; word.len() / 2]?;
     let all_read = hex::decode_to_slice(word, bytes.as_mut_slice()).is_ok();
     Ok(all_read.then_some(bytes))

@@ -27,7 +27,9 @@ fn answered(heap: Global, line: &[u8]) -> Result<Vec<u8>, AllocError>
         Some(answer) => answer.to_string(heap)?,
         None => "not understood".to_string(heap)?,
     };
-    let mut out = Vec::from_slice(heap, line)?;
+    // one request for all of it, so that the heap is not asked again as the line grows
+    let mut out = Vec::with_capacity(heap, line.len().saturating_add(text.len() + 4))?;
+    out.extend_from_slice(line)?;
     out.extend_from_slice(b" = ")?;
     out.extend_from_slice(text.as_bytes())?;
     out.push(b'\n')?;
