@@ -128,6 +128,7 @@ impl<T: InstructionSet> Target for T {
         T::Encoding::write(Spelled { encoding, distance }, out)
     }
 
+    #[tactic(auto, using(crate::proofs::Tables::read_by))]
     fn read(&self, bytes: &[u8]) -> Option<Branch> {
         let Spelled { encoding, distance } = T::Encoding::decode(bytes)?;
         Some(encoding.entry()?.over(distance))
