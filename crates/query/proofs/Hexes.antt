@@ -5,7 +5,8 @@ use Rattle.std.proofs.lemmas.List.{flat_map_more, take_more}
 use Rattle.std.proofs.lemmas.Bool.Decides.{nat_tests}
 use Rattle.std.proofs.lemmas.Str.{IsUtf8-from_ascii}
 use Rattle.std.specs.Bool.{then_some}
-use Rattle.std.specs.List.{AllPass}
+use Rattle.std.specs.List.{AllPass, list_all}
+use Rattle.std.proofs.lemmas.List.Sums.{list_all-from_AllPass}
 use Rattle.std.specs.Option.{option_map}
 use Rattle.std.specs.Result.{result_ok}
 use Rattle.std.specs.Char.{digit_char, digit_value, is_ascii_hexdigit}
@@ -96,8 +97,8 @@ decodes (Err e) x is = cc is
 digits_of : (word bytes : List ℕ) → unhex word ≡ Some bytes → AllPass is_ascii_hexdigit word
 digits_of word bytes is = λ k d lt. passes (get_or word k d) (((IsOk-decode_sized word (length word / 2)).0 (decodes _ bytes (decoded_is word ∙ is))).1 k d lt)
 
-pub unhex_none : (word : List ℕ) → ¬ (AllPass is_ascii_hexdigit word) → unhex word ≡ None
-unhex_none word not = none_from (unhex word) (λ bytes is. not (digits_of word bytes is))
+pub unhex_none : (word : List ℕ) → list_all is_ascii_hexdigit word ≡ false → unhex word ≡ None
+unhex_none word not = none_from (unhex word) (λ bytes is. cc (sym not ∙ list_all-from_AllPass is_ascii_hexdigit word (digits_of word bytes is)))
 
 -- every number is a byte
 abbrev pub AreBytes : List ℕ → Type 0

@@ -22,7 +22,7 @@ pub enum Answer {
     Read(Option<Branch>),
 }
 
-// A hexadecimal digit, in lower case: by hand, since the library writes a byte's digits by a call of the formatter for each byte.
+// A hexadecimal digit, in lower case: no `char::from_digit`, whose `None` would have to be shown never to come.
 fn digit(value: u8) -> u8
     requires { value < 16 }
     ensures { result ≡ digit_char value }
@@ -47,7 +47,7 @@ fn digits(bytes: &[u8]) -> [u8; 2 * LONGEST]
     digits
 }
 
-// Prints so many bytes by one call: a call for each made a reply cost half as much again.
+// Prints bytes that are no more than the longest form has, by one call of the formatter and not one for each: its calls are dear.
 fn print_piece<W: fmt::Write>(f: &mut fmt::Formatter<W>, bytes: &[u8]) -> fmt::Result
     requires { length bytes.now ≤ LONGEST }
     ensures { WritesOnOk W.write_str_gives f.old result (hex_of bytes.now) f.new }

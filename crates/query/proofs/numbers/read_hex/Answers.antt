@@ -20,4 +20,4 @@ returns c =
     ∙ written_is _ _ out c.decode_to_slice.ensures.value ∙ ap (λ n. result_ok (decode_sized c.args.word.now n)) room ∙ decoded_is c.args.word.now
 
 pub returns-then-not-all_digits : goal.returns-then-not-all_digits
-returns-then-not-all_digits c = sym (unhex_none c.args.word.now c.if-not-all_digits.ensures)
+returns-then-not-all_digits c = sym (unhex_none c.args.word.now (sym c.if-not-all_digits.ensures))
