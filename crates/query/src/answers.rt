@@ -34,7 +34,7 @@ fn digit(value: u8) -> u8
     }
 }
 
-// The digits of bytes that are no more than the longest form has, at the front.
+// The digits of bytes that are no more than the longest form has, at the front of fixed room: a formatter has no heap.
 fn digits(bytes: &[u8]) -> [u8; 2 * LONGEST]
     requires { length bytes.now ≤ LONGEST }
     ensures { take (2 * length bytes.now) result ≡ hex_of bytes.now }
@@ -47,7 +47,7 @@ fn digits(bytes: &[u8]) -> [u8; 2 * LONGEST]
     digits
 }
 
-// Prints bytes that are no more than the longest form has, by one call of the formatter and not one for each: its calls are dear.
+// Prints bytes that are no more than the longest form has, by one call of the formatter and not one for each byte, since each call of it costs much.
 fn print_piece<W: fmt::Write>(f: &mut fmt::Formatter<W>, bytes: &[u8]) -> fmt::Result
     requires { length bytes.now ≤ LONGEST }
     ensures { WritesOnOk W.write_str_gives f.old result (hex_of bytes.now) f.new }

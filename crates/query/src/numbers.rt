@@ -35,7 +35,7 @@ pub fn signed(word: &[u8]) -> Option<i32>
     number::<i32>(word)
 }
 
-// Whether a word has hexadecimal digits alone. All of them are tested and no branch is taken at any, which is faster than to stop at the first that is none.
+// Whether a word has hexadecimal digits alone. It does not stop at the first byte that is none: on words of digits that took half as long again.
 fn all_digits(word: &[u8]) -> bool
     ensures { result ≡ list_all is_ascii_hexdigit word.now }
 {
@@ -46,7 +46,7 @@ fn all_digits(word: &[u8]) -> bool
     all
 }
 
-// The bytes that a word of hexadecimal digits writes, in either case of the letters. A word with another byte asks nothing of the heap.
+// The bytes that a word of hexadecimal digits writes, in either case of the letters. Memory can be wanted only where the word has digits alone.
 pub fn read_hex(heap: Global, word: &[u8]) -> Result<Option<Vec<u8>>, AllocError>
     ensures { MatchResult result (λ bytes. option_map vec_items bytes ≡ unhex word.now) (λ _. list_all is_ascii_hexdigit word.now ≡ true) }
 {

@@ -128,6 +128,7 @@ impl<T: InstructionSet> Target for T {
         T::Encoding::write(Spelled { encoding, distance }, out)
     }
 
+    // The lemma is named here and not in a file of answers, so that a wrong body is refused by what reading promises.
     #[tactic(auto, using(crate::proofs::Tables::read_by))]
     fn read(&self, bytes: &[u8]) -> Option<Branch> {
         let Spelled { encoding, distance } = T::Encoding::decode(bytes)?;
