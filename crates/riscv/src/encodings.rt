@@ -118,6 +118,8 @@ impl Listed for Encoding {
         }
     }
 
+    // Inlined, so that reading, which asks it to decode and again of what was decoded, works it out once.
+    #[inline(always)]
     fn entry(self) -> Option<Entry> {
         let (kind, form) = match self {
             Encoding::One(Instruction::CJ) => (Kind::J, 0),

@@ -6,7 +6,7 @@ ghost use Rattle.riscv.specs.Finding.{FindsFar, FindsLong, FindsPair, FindsSpell
 
 use crate::encodings::Encoding;
 use crate::words::instructions::{Instruction, Step};
-use target::{Encode, Extent, Spelled};
+use target::{Encode, Extent, Listed, Spelled};
 
 // The distance with these two parts.
 fn far(upper: i32, lower: i32) -> i32
@@ -80,5 +80,7 @@ pub fn decode(bytes: &[u8]) -> Option<Spelled<Encoding>>
     ensures { Decoded table bytes.now result }
 {
     let found = spelling(bytes)?;
+    // most instructions alone are of no kind, and that is told sooner than their bytes are written
+    found.encoding.entry()?;
     spells(found, bytes).then_some(found)
 }

@@ -1,7 +1,7 @@
 // Words taken apart: the instruction that a word can be, with the immediate that it then holds.
 ghost use Rattle.std.specs.Prelude.{◌≡◌, ◌<◌, ◌≤◌};
 ghost use Rattle.riscv.specs.Finding.{step};
-ghost use Rattle.riscv.specs.Reading.{cut as cut_of, half as half_of, whole as whole_of};
+ghost use Rattle.riscv.specs.Reading.{cut as cut_of, half as half_of, immediate, whole as whole_of};
 
 use super::low_bits;
 use crate::conditions::{Comparison, Condition};
@@ -51,27 +51,29 @@ impl Instruction {
 }
 
 impl Step {
-    // What a word holds, as the instruction that it can be.
-    fn of(instruction: Option<Instruction>, word: u32) -> Option<Step>
-        ensures { result ≡ step word instruction }
+    // A word's instruction, with the immediate that the word holds for it.
+    // Inlined, since the pair is handed back through memory otherwise.
+    #[inline(always)]
+    fn of(instruction: Instruction, word: u32) -> Step
+        ensures { result ≡ record { instruction = instruction; immediate = immediate instruction word } }
     {
-        instruction.map(|instruction| Step {
+        Step {
             instruction,
             immediate: instruction.immediate(word),
-        })
+        }
     }
 
     // What a word of 16 bits can be.
     pub fn half(word: u32) -> Option<Step>
         ensures { result ≡ step word (half_of word) }
     {
-        Step::of(Instruction::half(word), word)
+        Some(Step::of(Instruction::half(word)?, word))
     }
 
     // What a word of 32 bits can be.
     pub fn whole(word: u32) -> Option<Step>
         ensures { result ≡ step word (whole_of word) }
     {
-        Step::of(Instruction::whole(word), word)
+        Some(Step::of(Instruction::whole(word)?, word))
     }
 }

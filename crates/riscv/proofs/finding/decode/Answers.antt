@@ -1,7 +1,7 @@
 -- What is found and was written again spells the bytes, and nothing else that a kind has does.
-use Rattle.std.proofs.Common.{Bool, true, false, List, ℕ, Some, sym, refl, ap, subst}
+use Rattle.std.proofs.Common.{Bool, true, false, List, ℕ, Some, None, sym, refl, ap, ◌∙◌, subst}
 use Rattle.std.specs.Bool.{Decides, then_some}
-use Rattle.target.specs.Table.{Decoded, Spells}
+use Rattle.target.specs.Table.{Decoded, Spells, Unlisted}
 use Rattle.target.specs.declared.table.Spelled.{Spelled}
 use Rattle.riscv.specs.declared.encodings.Encoding.{Encoding}
 use Rattle.riscv.specs.Encodings.{table}
@@ -16,8 +16,14 @@ module _ (bytes : List ℕ) (s : Spelled Encoding) (finds : FindsSpelling bytes 
       let yes = is.1 (subst (λ (x : Spelled Encoding). Spells table bytes x.encoding x.distance) (sym (some_same (finds k f e d listed spells))) spells) in
       cc
 
+  nobodys : Unlisted table s.encoding → Decoded table bytes None
+  nobodys unlisted = λ k f e d listed spells. unlisted k f (listed ∙ ap (λ (x : Spelled Encoding). Some x.encoding) (sym (some_same (finds k f e d listed spells))))
+
 pub returns-in_err-found : goal.returns-in_err-found
 returns-in_err-found c = rw c.from_residual.ensures (λ k f e d is spells. let none = c.in_err-found.ensures k f e d is spells in cc)
+
+pub returns-in_err-entry : goal.returns-in_err-entry
+returns-in_err-entry c = rw c.from_residual-in_err-entry.ensures (nobodys c.args.bytes.now c.in_ok-found.found c.in_ok-found.ensures c.in_err-entry.ensures)
 
 pub returns : goal.returns
 returns c = rw c.then_some.ensures (tested c.args.bytes.now c.in_ok-found.found c.in_ok-found.ensures c.spells.result c.spells.ensures)
