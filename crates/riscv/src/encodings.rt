@@ -118,7 +118,7 @@ impl Listed for Encoding {
         }
     }
 
-    // Inlined, so that reading, which asks it to decode and again of what was decoded, works it out once.
+    // Inlined, since reading asks it twice: whether there is one before a row is compared, and which after.
     #[inline(always)]
     fn entry(self) -> Option<Entry> {
         let (kind, form) = match self {

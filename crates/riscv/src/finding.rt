@@ -80,7 +80,7 @@ pub fn decode(bytes: &[u8]) -> Option<Spelled<Encoding>>
     ensures { Decoded table bytes.now result }
 {
     let found = spelling(bytes)?;
-    // most instructions alone are of no kind, and that is told sooner than their bytes are written
+    // most of what is found is of no kind, and that is told sooner than its bytes are written
     found.encoding.entry()?;
     spells(found, bytes).then_some(found)
 }
