@@ -1,7 +1,7 @@
 // Words taken apart: the instruction that a word can be, with the immediate that it then holds.
-ghost use Rattle.std.specs.Prelude.{◌≡◌, ◌<◌, ◌≤◌};
+ghost use Rattle.std.specs.Prelude.{◌≡◌, ◌<◌, ◌≤◌, Some};
 ghost use Rattle.riscv.specs.Finding.{step};
-ghost use Rattle.riscv.specs.Reading.{cut as cut_of, half as half_of, immediate, whole as whole_of};
+ghost use Rattle.riscv.specs.Reading.{cut as cut_of, half as half_of, whole as whole_of};
 
 use super::low_bits;
 use crate::conditions::{Comparison, Condition};
@@ -55,7 +55,7 @@ impl Step {
     // Inlined, since the pair is handed back through memory otherwise.
     #[inline(always)]
     fn of(instruction: Instruction, word: u32) -> Step
-        ensures { result ≡ record { instruction = instruction; immediate = immediate instruction word } }
+        ensures { step word (Some instruction) ≡ Some result }
     {
         Step {
             instruction,
